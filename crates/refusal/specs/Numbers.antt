@@ -4,6 +4,8 @@ use mathlib.Core.List.{List, [], _∷_}
 use Prim.Native.Nat.{ℕ}
 use Rattle.std.specs.declared.option.Option.{Option}
 use Rattle.std.specs.declared.option.Option.the-variants.{Some, None}
+use Rattle.std.specs.declared.result.Result.{Result}
+use Rattle.std.specs.declared.result.Result.the-variants.{Ok, Err}
 use Rattle.refusal.specs.declared.Refusal.{Refusal}
 use Rattle.refusal.specs.declared.Refusal.the-variants.{EngineLimits, NumberTaken, NoPlace, AngleLimits, ModeList, BandList, ValueLimits, NoSuchCard, HorizonLimits, ShortMemory, UnknownKind, CutShort, OutOfTurn}
 
@@ -32,8 +34,13 @@ pub record Check : Type 0 where
 abbrev pub _gives_ : Bool → Refusal → Check
 b gives r = record { holds = b; gives = r }
 
-infixr 30 _gives_
+infix 70 _gives_
 -- the refusal of a call: the first of its checks, in the call's order, whose condition holds
 abbrev pub first-of : List Check → Option Refusal
 first-of [] = None
 first-of (c ∷ cs) = elim (c .holds) [ true ↦ Some (c .gives) | false ↦ first-of cs ]
+
+-- the refusal in an answer, where it has one
+abbrev pub refusal-in : {T : Type 0} → Result T Refusal → Option Refusal
+refusal-in (Ok x) = None
+refusal-in (Err e) = Some e
