@@ -1,0 +1,2 @@
+// An engine card's bands as a task.
+pub mod kind;

@@ -1,0 +1,3 @@
+// Engines and engine cards, within their limits.
+pub mod card;
+pub mod engine;
