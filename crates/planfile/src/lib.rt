@@ -1,0 +1,2 @@
+// Plan files: records, the reader that hands them out, and faults with their byte place.
+pub mod record;
