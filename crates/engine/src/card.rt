@@ -2,6 +2,7 @@
 ghost use Prim.Native.Nat.{_≤_};
 ghost use mathlib.Core.Path.{_≡_};
 ghost use lib.ListN.{length};
+use table::Keyed;
 
 // From a lower speed up to the next mode's, a job costs this many ticks.
 #[derive(Clone, Copy)]
@@ -10,11 +11,21 @@ pub struct Mode {
     pub cost: u32,
 }
 
+// A mode is known by its lower speed.
+pub impl Keyed for Mode as ModeKeyed {
+    ghost key = { λ m. m .lower };
+
+    fn key(&self) -> u32 {
+        self.lower
+    }
+}
+
 // The modes of a card: the first cells of a table.
 #[derive(Clone, Copy)]
 pub struct ModeList {
     pub table: [Mode; 8],
     pub used: usize,
+    ghost whole: { length table ≡ 8 },
     ghost few: { used ≤ 8 },
 }
 
@@ -23,6 +34,7 @@ pub struct ModeList {
 pub struct BandList {
     pub table: [u32; 24],
     pub used: usize,
+    ghost whole: { length table ≡ 24 },
     ghost few: { used ≤ 24 },
 }
 

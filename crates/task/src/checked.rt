@@ -41,6 +41,9 @@ pub struct EntryCost {
 }
 
 impl EntryCost {
+    // No entry cost.
+    pub const NONE: EntryCost = EntryCost { ticks: 0 };
+
     pub fn new(ticks: u16) -> Result<EntryCost, Refusal>
         ensures made { λ r. ⌜ Cases r (λ e. e .ticks ≡ ticks) (λ e. e ≡ ValueLimits) ⌝ }
         ensures when { λ r. ⌜ isOk r ≡ leb ticks 1000 ⌝ }
