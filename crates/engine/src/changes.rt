@@ -88,6 +88,19 @@ impl BandList {
 }
 
 impl Card {
+    // A card of no parts, which is right for no engine.
+    pub const BLANK: Card = Card {
+        angle: 0,
+        modes: ModeList {
+            table: [Mode { lower: 0, cost: 0 }; 8],
+            used: 0,
+        },
+        bands: BandList {
+            table: [0; 24],
+            used: 0,
+        },
+    };
+
     // A card of these parts, or the first refusal where one is wrong for the engine.
     pub fn new(engine: &Engine, angle: u32, modes: &[Mode], bands: &[u32]) -> Result<Card, Refusal>
         ensures refusal { λ r. ⌜ refusal-in r ≡ card-refusal (numbers-of (now (engine .entry))) (record { angle = angle; modes = now (modes .entry); bands = now (bands .entry) }) ⌝ }

@@ -16,6 +16,9 @@ pub struct Share {
 }
 
 impl Share {
+    // The whole of a deadline.
+    pub const WHOLE: Share = Share { thousandths: 1000 };
+
     pub fn new(thousandths: u16) -> Result<Share, Refusal>
         ensures made { λ r. ⌜ Cases r (λ s. s .thousandths ≡ thousandths) (λ e. e ≡ ValueLimits) ⌝ }
         ensures when { λ r. ⌜ isOk r ≡ (leb 1 thousandths && leb thousandths 1000) ⌝ }

@@ -47,6 +47,13 @@ pub struct Timed {
 }
 
 impl Timed {
+    // The shortest timed task.
+    pub const LEAST: Timed = Timed {
+        period: 1,
+        deadline: 1,
+        cost: 1,
+    };
+
     // A timed task, or a refusal where a number is outside its limits.
     pub fn new(period: u32, deadline: u32, cost: u32) -> Result<Timed, Refusal>
         ensures made { λ r. ⌜ Cases r (λ c. (c .period ≡ period) × (c .deadline ≡ deadline) × (c .cost ≡ cost)) (λ e. e ≡ ValueLimits) ⌝ }
@@ -66,6 +73,18 @@ impl Timed {
             deadline,
             cost,
         })
+    }
+
+    // Changes the cost, or refuses one outside its limits.
+    pub fn recost(&mut self, cost: u32) -> Result<(), Refusal>
+        ensures when { λ r. ⌜ isOk r ≡ (leb 1 cost && leb cost 100000) ⌝ }
+        ensures done { λ r. ⌜ Cases r (λ _. (now (self .exit) .period ≡ now (self .entry) .period) × (now (self .exit) .deadline ≡ now (self .entry) .deadline) × (now (self .exit) .cost ≡ cost)) (λ e. (e ≡ ValueLimits) × (now (self .exit) ≡ now (self .entry))) ⌝ }
+    {
+        if cost < 1 || cost > 100_000 {
+            return Err(Refusal::ValueLimits);
+        }
+        self.cost = cost;
+        Ok(())
     }
 }
 

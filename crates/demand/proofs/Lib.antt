@@ -1,0 +1,4 @@
+pub mod Bests
+pub mod Copies
+pub mod Lents
+pub mod Tables

@@ -1,0 +1,7 @@
+// Draft plans: an engine and its cards, changed and judged.
+pub mod cards;
+pub mod deck;
+pub mod draft;
+pub mod held;
+pub mod places;
+pub mod tables;
