@@ -1,3 +1,5 @@
 pub mod Maps
 pub mod Seen
 pub mod Refused
+pub mod Rights
+pub mod Decks

@@ -6,13 +6,13 @@ use Prim.Native.Nat.{ℕ, zero, suc, _<_}
 use native.Mathlib.Omega.{arith}
 use lib.Dec.{eqb, ltb}
 use lib.ListN.{length, getD, set, take}
-use Rattle.std.specs.Options.{mapped}
+use Rattle.std.specs.Options.{mapped, isSome}
 use Rattle.std.specs.declared.option.Option.{Option}
 use Rattle.std.specs.declared.option.Option.the-variants.{Some, None}
 use Rattle.table.specs.Ordered.{insert-by, find-by, without, change-by}
 use Rattle.std.proofs.shelf.Tests.{eq-eqb, ne-eqb}
 use Rattle.table.specs.Found.{Lacks, First}
-use Rattle.table.proofs.Ordered.{find-none, find-used}
+use Rattle.table.proofs.Ordered.{find-none, find-used, first-take}
 
 cond-map : {X Y : Type 0} (f : X → Y) (b : Bool) (x y : X) → f (cond b x y) ≡ cond b (f x) (f y)
 cond-map f true x y = refl
@@ -68,3 +68,15 @@ take-stored zero xs i x = refl
 take-stored (suc n) [] i x = refl
 take-stored (suc n) (y ∷ ys) zero x = refl
 take-stored (suc n) (y ∷ ys) (suc i) x = ap (λ l. y ∷ l) (take-stored n ys i x)
+
+module _ {X Y : Type 0} (f : X → Y) (key : Y → ℕ) (n : ℕ) where
+  found-some : (xs : List X) (i : ℕ) → First (λ c. key (f c)) n xs i → isSome (find-by key n (map f xs)) ≡ true
+  found-some [] i at = absurd (omega arith)
+  found-some (y ∷ ys) zero at = ap (λ b. isSome (cond b (Some (f y)) (find-by key n (map f ys)))) (eq-eqb (key (f y)) n (at .1 y))
+  found-some (y ∷ ys) (suc i) at =
+      ap (λ b. isSome (cond b (Some (f y)) (find-by key n (map f ys)))) (ne-eqb (key (f y)) n (at .2 0 y (omega arith)))
+      ∙ found-some ys i (omega arith, λ d. at .1 d, λ j d h. at .2 (suc j) d (omega arith))
+
+  -- an item that is found among the first is seen
+  pub some-seen : (used : ℕ) (xs : List X) (i : ℕ) → i < used → First (λ c. key (f c)) n xs i → isSome (find-by key n (map f (take used xs))) ≡ true
+  some-seen used xs i below at = found-some (take used xs) i (first-take (λ c. key (f c)) n used xs i below at)

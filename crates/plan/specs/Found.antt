@@ -1,8 +1,7 @@
 -- Where a card of a number stands in a deck's tables.
 use mathlib.Core.Path.{_≡_}
 use Prim.Native.Nat.{ℕ, _<_}
-use Rattle.std.specs.declared.option.Option.{Option}
-use Rattle.std.specs.declared.option.Option.the-variants.{Some, None}
+use Rattle.std.specs.declared.option.Option.the-variants.{None}
 use Rattle.table.specs.Found.{First}
 use Rattle.plan.specs.declared.tables.CrankTable.{CrankTable}
 use Rattle.plan.specs.declared.tables.TimedTable.{TimedTable}
@@ -19,7 +18,7 @@ At-crank t n i = (i < t .used) × First (λ c. c .number) n (t .table) i
 abbrev pub At-timed : TimedTable → ℕ → ℕ → Type 0
 At-timed t n i = (i < t .used) × First (λ c. c .number) n (t .table) i
 
-abbrev pub Stands-at : Deck → ℕ → Option Place → Type 0
-Stands-at d n None = (crank-at (cards-of d) n ≡ None) × (clock-at (cards-of d) n ≡ None)
-Stands-at d n (Some (places.Crank i)) = At-crank (d .cranks) n i
-Stands-at d n (Some (places.Timed i)) = (crank-at (cards-of d) n ≡ None) × At-timed (d .timeds) n i
+abbrev pub Stands-at : Deck → ℕ → Place → Type 0
+Stands-at d n (places.Crank i) = At-crank (d .cranks) n i
+Stands-at d n (places.Timed i) = (crank-at (cards-of d) n ≡ None) × At-timed (d .timeds) n i
+Stands-at d n places.Nowhere = (crank-at (cards-of d) n ≡ None) × (clock-at (cards-of d) n ≡ None)

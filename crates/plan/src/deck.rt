@@ -17,11 +17,12 @@ pub struct Deck {
     ghost right: { every (right-card (numbers-of engine)) (cranks-in cranks) ≡ true },
 }
 
-// Where a card stands: its table, and its index there.
+// Where the card of a number stands: its table and its index there, or nowhere.
 #[derive(Clone, Copy)]
 pub enum Place {
     Crank(usize),
     Timed(usize),
+    Nowhere,
 }
 
 // A plan that is being made. The mark is the horizon to which it was judged to fit, 0 where it was not.

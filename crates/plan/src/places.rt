@@ -21,16 +21,16 @@ use table::find;
 
 impl Deck {
     // Where the card of this number stands.
-    fn place(&self, number: u8) -> Option<Place>
+    fn place(&self, number: u8) -> Place
         ensures { λ r. ⌜ Stands-at (now (self .entry)) number r ⌝ }
     {
         let key = u32::from(number);
         if let Some(at) = find(&self.cranks.table, self.cranks.used, key) {
-            return Some(Place::Crank(at));
+            return Place::Crank(at);
         }
         match find(&self.timeds.table, self.timeds.used, key) {
-            Some(at) => Some(Place::Timed(at)),
-            None => None,
+            Some(at) => Place::Timed(at),
+            None => Place::Nowhere,
         }
     }
 
@@ -38,7 +38,11 @@ impl Deck {
     pub(crate) fn uses(&self, number: u8) -> bool
         ensures { λ r. ⌜ r ≡ in-use (cards-of (now (self .entry))) number ⌝ }
     {
-        self.place(number).is_some()
+        match self.place(number) {
+            Place::Crank(_) => true,
+            Place::Timed(_) => true,
+            Place::Nowhere => false,
+        }
     }
 
     // Whether any card stands in the deck.
@@ -79,9 +83,9 @@ impl Deck {
         ensures done { λ r. ⌜ Cases r (λ _. cards-of (now (self .exit)) ≡ with-recost (cards-of (now (self .entry))) number index cost) (λ _. now (self .exit) ≡ now (self .entry)) ⌝ }
     {
         match self.place(number) {
-            Some(Place::Crank(at)) => self.cranks.recost(number, at, index, cost),
-            Some(Place::Timed(at)) => self.timeds.recost(number, at, index, cost),
-            None => Err(Refusal::NoSuchCard),
+            Place::Crank(at) => self.cranks.recost(number, at, index, cost),
+            Place::Timed(at) => self.timeds.recost(number, at, index, cost),
+            Place::Nowhere => Err(Refusal::NoSuchCard),
         }
     }
 
@@ -92,9 +96,9 @@ impl Deck {
     {
         let engine = self.engine;
         match self.place(number) {
-            Some(Place::Crank(at)) => self.cranks.cut(&engine, number, at, speed),
-            Some(Place::Timed(_)) => Err(Refusal::BandList),
-            None => Err(Refusal::NoSuchCard),
+            Place::Crank(at) => self.cranks.cut(&engine, number, at, speed),
+            Place::Timed(_) => Err(Refusal::BandList),
+            Place::Nowhere => Err(Refusal::NoSuchCard),
         }
     }
 
@@ -104,9 +108,9 @@ impl Deck {
         ensures done { λ r. ⌜ Cases r (λ _. cards-of (now (self .exit)) ≡ with-drop (cards-of (now (self .entry))) number) (λ _. now (self .exit) ≡ now (self .entry)) ⌝ }
     {
         match self.place(number) {
-            Some(Place::Crank(at)) => self.cranks.take_out(number, at),
-            Some(Place::Timed(at)) => self.timeds.take_out(number, at),
-            None => return Err(Refusal::NoSuchCard),
+            Place::Crank(at) => self.cranks.take_out(number, at),
+            Place::Timed(at) => self.timeds.take_out(number, at),
+            Place::Nowhere => return Err(Refusal::NoSuchCard),
         }
         Ok(())
     }

@@ -1,2 +1,5 @@
+pub mod Bodies
+pub mod Faults
 pub mod Format
+pub mod Places
 pub mod Reading
