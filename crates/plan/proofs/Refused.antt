@@ -14,7 +14,7 @@ use Rattle.engine.specs.Changes.{cut-wrong}
 use Rattle.plan.specs.Tables.{Crank}
 use Rattle.plan.specs.Calls.{modes-in, mode-refused, band-refused}
 
-none-some : {X : Type 0} {x : X} → None ≡ Some x → ⊥
+pub none-some : {X : Type 0} {x : X} → None ≡ Some x → ⊥
 none-some {X} {x} e = let z : _≡_ {A = ℕ} 0 1 = cc in omega arith
 
 module _ (o : Option Crank) (index cost : ℕ) where

@@ -13,7 +13,10 @@ use Rattle.std.proofs.shelf.Tests.{and-parts, and-from, cases-bool}
 use Rattle.table.specs.Ordered.{insert-by, find-by, without, change-by}
 use Rattle.engine.specs.Limits.{every, cost-ok, angle-ok, bands-ok}
 use Rattle.engine.specs.Views.{Numbers, Parts, Right, modes-ok}
-use Rattle.engine.specs.Changes.{cut-wrong}
+use Rattle.engine.specs.Changes.{cut-wrong, card-refusal}
+use Rattle.refusal.specs.Numbers.{first-of, _gives_}
+use Rattle.refusal.specs.declared.Refusal.the-variants.{AngleLimits, ModeList, BandList}
+use Rattle.plan.proofs.Refused.{none-some}
 use Rattle.engine.proofs.Right.{cut-right, recost-right}
 use Rattle.plan.specs.Tables.{Crank, right-card}
 use Rattle.plan.specs.Calls.{crank-recosted, crank-cut}
@@ -69,3 +72,18 @@ cut-card-right e c speed fine h = parts-right e (crank-cut speed c) (cut-right e
 pub every-none : {X : Type 0} (test : X → Bool) (xs : List X) → length xs ≡ 0 → every test xs ≡ true
 every-none test [] e = refl
 every-none test (x ∷ xs) e = absurd (omega arith)
+
+-- a card whose parts are refused nothing is right
+pub made-right : (e : Numbers) (c : Crank) (p : Parts) → c .parts ≡ p → None ≡ card-refusal e p → right-card e c ≡ true
+made-right e c p same fine =
+    parts-right e c (subst (Right e) (sym same) (all-pass (angle-ok (e .greatest) (p .angle)) (modes-ok (e .least) (e .greatest) (p .modes)) (bands-ok (e .least) (e .greatest) (p .bands)) fine))
+  where
+    all-pass : (a m b : Bool) → None ≡ first-of (not a gives AngleLimits ∷ not m gives ModeList ∷ not b gives BandList ∷ []) → (a ≡ true) × (m ≡ true) × (b ≡ true)
+    all-pass true true true h = (refl, refl, refl)
+    all-pass true true false h = absurd (none-some h)
+    all-pass true false true h = absurd (none-some h)
+    all-pass true false false h = absurd (none-some h)
+    all-pass false true true h = absurd (none-some h)
+    all-pass false true false h = absurd (none-some h)
+    all-pass false false true h = absurd (none-some h)
+    all-pass false false false h = absurd (none-some h)

@@ -2,7 +2,9 @@
 use mathlib.Core.Path.{_≡_, sym, ap, _∙_}
 use mathlib.Core.List.{List, map}
 use Prim.Native.Nat.{ℕ, _<_}
-use lib.ListN.{getD, set, take}
+use lib.ListN.{length, getD, set, take}
+use native.Mathlib.Omega.{arith}
+use Rattle.std.proofs.shelf.Lists.{length-map, length-take-le}
 use Rattle.std.specs.declared.option.Option.the-variants.{Some}
 use Rattle.table.specs.Ordered.{find-by, change-by}
 use Rattle.table.specs.Found.{First}
@@ -34,3 +36,10 @@ crank-stored t n i x d g at e = stored crank-of (λ c. c .number) (t .used) (t .
 
 pub clock-stored : (t : TimedTable) (n i : ℕ) (x d : TimedCard) (g : Clock → Clock) → At-timed t n i → clock-of x ≡ g (clock-of (getD (t .table) i d)) → map clock-of (take (t .used) (set (t .table) i x)) ≡ change-by (λ c. c .number) n g (clocks-in t)
 clock-stored t n i x d g at e = stored clock-of (λ c. c .number) (t .used) (t .table) n i (at .0) (at .1) x d g e
+
+-- how many cards are seen
+pub crank-count : (t : CrankTable) → length (cranks-in t) ≡ t .used
+crank-count t = length-map _ crank-of ∙ length-take-le (t .used) (t .table) (omega (arith, t .whole, t .few))
+
+pub clock-count : (t : TimedTable) → length (clocks-in t) ≡ t .used
+clock-count t = length-map _ clock-of ∙ length-take-le (t .used) (t .table) (omega (arith, t .whole, t .few))

@@ -65,6 +65,41 @@ impl Draft {
         Ok(())
     }
 
+    // Puts in an engine card.
+    pub fn add_engine_card(&mut self, number: u8, angle: u32, share: u16, modes: &[Mode], bands: &[u32]) -> Result<(), Refusal>
+        ensures refusal { λ r. ⌜ refusal-in r ≡ crank-refused (cards-of (now (self .entry) .deck)) (record { number = number; share = share; parts = record { angle = angle; modes = now (modes .entry); bands = now (bands .entry) } }) ⌝ }
+        ensures done { λ r. ⌜ Cases r (λ _. stands (now (self .exit)) ≡ changed (with-crank (cards-of (now (self .entry) .deck)) (record { number = number; share = share; parts = record { angle = angle; modes = now (modes .entry); bands = now (bands .entry) } }))) (λ _. now (self .exit) ≡ now (self .entry)) ⌝ }
+    {
+        if number == 0 || self.deck.uses(number) {
+            return Err(Refusal::NumberTaken);
+        }
+        if self.deck.cranks.len() >= 4 {
+            return Err(Refusal::NoPlace);
+        }
+        let card = Card::new(&self.deck.engine, angle, modes, bands)?;
+        let share = Share::new(share)?;
+        self.deck.add_crank(CrankCard { number, share, card });
+        self.mark = 0;
+        Ok(())
+    }
+
+    // Puts in a timed card.
+    pub fn add_timed_card(&mut self, number: u8, period: u32, deadline: u32, cost: u32) -> Result<(), Refusal>
+        ensures refusal { λ r. ⌜ refusal-in r ≡ clock-refused (cards-of (now (self .entry) .deck)) (record { number = number; period = period; deadline = deadline; cost = cost }) ⌝ }
+        ensures done { λ r. ⌜ Cases r (λ _. stands (now (self .exit)) ≡ changed (with-clock (cards-of (now (self .entry) .deck)) (record { number = number; period = period; deadline = deadline; cost = cost }))) (λ _. now (self .exit) ≡ now (self .entry)) ⌝ }
+    {
+        if number == 0 || self.deck.uses(number) {
+            return Err(Refusal::NumberTaken);
+        }
+        if self.deck.timeds.len() >= 16 {
+            return Err(Refusal::NoPlace);
+        }
+        let timed = Timed::new(period, deadline, cost)?;
+        self.deck.add_timed(TimedCard { number, timed });
+        self.mark = 0;
+        Ok(())
+    }
+
     // Changes in place the cost of one mode of a card.
     pub fn recost(&mut self, number: u8, index: u8, cost: u32) -> Result<(), Refusal>
         ensures refusal { λ r. ⌜ refusal-in r ≡ recost-refused (cards-of (now (self .entry) .deck)) number index cost ⌝ }

@@ -1,10 +1,6 @@
-use mathlib.Core.Path.{sym, _∙_}
-use native.Mathlib.Omega.{arith}
-use Rattle.std.proofs.shelf.Lists.{length-map, length-take-le}
-use Rattle.plan.specs.Tables.{crank-of}
+use mathlib.Core.Path.{sym}
+use Rattle.plan.proofs.Seen.{crank-count}
 use Rattle.plan.proofs.tables.CrankTable.len.Needs as need
 
 pub returns : need.returns
-returns c =
-    let held = c .args .self .now in
-    sym (length-map _ crank-of ∙ length-take-le (held .used) (held .table) (omega (arith, held .whole, held .few)))
+returns c = sym (crank-count (c .args .self .now))
