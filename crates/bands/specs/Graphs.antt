@@ -10,20 +10,18 @@ use Rattle.std.specs.declared.option.Option.{Option}
 use Rattle.std.specs.declared.option.Option.the-variants.{Some, None}
 use Rattle.task.specs.Graph.{Graph}
 use Rattle.task.specs.Walks.{ticks}
-use Rattle.engine.specs.declared.engine.Engine.{Engine}
 use Rattle.engine.specs.declared.card.Mode.{Mode}
-use Rattle.engine.specs.declared.card.Card.{Card}
-use Rattle.engine.specs.Views.{modes-of, bands-of}
+use Rattle.engine.specs.Views.{Numbers, Parts}
 use Rattle.bands.specs.Gaps.{Pair, gap-value}
 
 -- the ends of a card's p-th band; the last band ends at the greatest speed
-abbrev pub lower-end : Card → ℕ → ℕ
-lower-end c p = getD (bands-of c) (p - 1) 0
+abbrev pub lower-end : Parts → ℕ → ℕ
+lower-end c p = getD (c .bands) (p - 1) 0
 
-abbrev pub upper-end : Engine → Card → ℕ → ℕ
-upper-end e c p = getD (bands-of c) p (e .greatest)
+abbrev pub upper-end : Numbers → Parts → ℕ → ℕ
+upper-end e c p = getD (c .bands) p (e .greatest)
 
-abbrev pub pair-at : Engine → Card → ℕ → ℕ → Pair
+abbrev pub pair-at : Numbers → Parts → ℕ → ℕ → Pair
 pair-at e c p q = record {
   A = e .rise;
   D = e .fall;
@@ -37,10 +35,10 @@ pair-at e c p q = record {
   uj = upper-end e c q;
 }
 
-abbrev pub band-here : Card → ℕ → Bool
-band-here c p = leb 1 p && leb p (length (bands-of c))
+abbrev pub band-here : Parts → ℕ → Bool
+band-here c p = leb 1 p && leb p (length (c .bands))
 
-abbrev pub band-gap : Engine → Card → ℕ → ℕ → Option ℕ
+abbrev pub band-gap : Numbers → Parts → ℕ → ℕ → Option ℕ
 band-gap e c p q = cond (band-here c p && band-here c q) (gap-value (pair-at e c p q)) None
 
 -- A speed lies in a range from a lower end up to, and not including, an upper end; the last range includes the
@@ -61,15 +59,15 @@ abbrev pub mode-end : ℕ → List Mode → ℕ → ℕ
 mode-end M ms k = next-lower M (drop (k + 1) ms)
 
 -- the k-th mode's range shares a speed with the p-th band
-abbrev pub Meets : Engine → Card → ℕ → ℕ → Type 0
+abbrev pub Meets : Numbers → Parts → ℕ → ℕ → Type 0
 Meets e c p k =
-    (v : ℕ) × In-range (e .greatest) (mode-at (modes-of c) k .lower) (mode-end (e .greatest) (modes-of c) k) v
+    (v : ℕ) × In-range (e .greatest) (mode-at (c .modes) k .lower) (mode-end (e .greatest) (c .modes) k) v
     × In-range (e .greatest) (lower-end c p) (upper-end e c p) v
 
 -- n is the greatest cost of the modes that share a speed with the p-th band
-pub record Greatest-cost (e : Engine) (c : Card) (p n : ℕ) : Type 0 where
-  pub reached : (k : ℕ) × (k < length (modes-of c)) × Meets e c p k × (mode-at (modes-of c) k .cost ≡ n)
-  pub bounds : (k : ℕ) → k < length (modes-of c) → Meets e c p k → mode-at (modes-of c) k .cost ≤ n
+pub record Greatest-cost (e : Numbers) (c : Parts) (p n : ℕ) : Type 0 where
+  pub reached : (k : ℕ) × (k < length (c .modes)) × Meets e c p k × (mode-at (c .modes) k .cost ≡ n)
+  pub bounds : (k : ℕ) → k < length (c .modes) → Meets e c p k → mode-at (c .modes) k .cost ≤ n
 
 -- two ranges with whole ends share a speed if the greater lower end is below the lesser upper end
 abbrev pub share-speed : ℕ → ℕ → ℕ → ℕ → Bool
@@ -81,11 +79,11 @@ cost-between M low high [] = 0
 cost-between M low high (x ∷ xs) =
     max (cond (share-speed low high (x .lower) (next-lower M xs)) (x .cost) 0) (cost-between M low high xs)
 
-abbrev pub band-cost : Engine → Card → ℕ → ℕ
-band-cost e c p = cond (band-here c p) (cost-between (e .greatest) (lower-end c p) (upper-end e c p) (modes-of c)) 0
+abbrev pub band-cost : Numbers → Parts → ℕ → ℕ
+band-cost e c p = cond (band-here c p) (cost-between (e .greatest) (lower-end c p) (upper-end e c p) (c .modes)) 0
 
 -- d is the least gap that leaves the p-th band
-pub record Least-gap (e : Engine) (c : Card) (p d : ℕ) : Type 0 where
+pub record Least-gap (e : Numbers) (c : Parts) (p d : ℕ) : Type 0 where
   pub reached : (q : ℕ) × (band-gap e c p q ≡ Some d)
   pub bounds : (q n : ℕ) → band-gap e c p q ≡ Some n → d ≤ n
 
@@ -96,17 +94,17 @@ lesser (Some x) None = Some x
 lesser (Some x) (Some y) = Some (min x y)
 
 -- the least gap from p to a band up to the n-th
-abbrev pub least-leaving : Engine → Card → ℕ → ℕ → Option ℕ
+abbrev pub least-leaving : Numbers → Parts → ℕ → ℕ → Option ℕ
 least-leaving e c p zero = None
 least-leaving e c p (suc n) = lesser (least-leaving e c p n) (band-gap e c p (suc n))
 
 -- the same least gap, as a value
-abbrev pub band-deadline : Engine → Card → ℕ → ℕ
-band-deadline e c p = ticks (least-leaving e c p (length (bands-of c)))
+abbrev pub band-deadline : Numbers → Parts → ℕ → ℕ
+band-deadline e c p = ticks (least-leaving e c p (length (c .bands)))
 
-abbrev pub bands-graph : Engine → Card → Graph
+abbrev pub bands-graph : Numbers → Parts → Graph
 bands-graph e c = record {
-  places = length (bands-of c);
+  places = length (c .bands);
   cost = band-cost e c;
   deadline = band-deadline e c;
   gap = band-gap e c;

@@ -1,2 +1,4 @@
 pub mod Gaps
 pub mod Graphs
+pub mod Rules
+pub mod Examples

@@ -1,0 +1,9 @@
+pub mod Squares
+pub mod Rules
+pub mod Bounds
+pub mod Ends
+pub mod Costs
+pub mod Leaving
+pub mod Lawful
+pub mod Ready
+pub mod Examples

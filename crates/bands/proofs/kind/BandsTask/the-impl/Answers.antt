@@ -1,0 +1,7 @@
+use Rattle.engine.specs.Views.{numbers-of, parts-of}
+use Rattle.bands.proofs.Lawful.{bands-lawful}
+use Rattle.bands.proofs.Ready.{ready-of}
+use Rattle.bands.proofs.kind.BandsTask.the-impl.Needs as need
+
+pub lawful-law : need.lawful-law
+lawful-law b = bands-lawful (numbers-of (b .engine)) (parts-of (b .card)) (ready-of b)
