@@ -3,3 +3,4 @@ pub mod Seen
 pub mod Refused
 pub mod Rights
 pub mod Decks
+pub mod Totals

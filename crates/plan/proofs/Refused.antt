@@ -7,6 +7,11 @@ use Rattle.std.specs.declared.option.Option.{Option}
 use Rattle.std.specs.declared.option.Option.the-variants.{Some, None}
 use native.Mathlib.Omega.{arith}
 use Rattle.std.proofs.shelf.Tests.{le-leb, lt-leb, cases-bool, cases-lt}
+use Rattle.refusal.specs.declared.Refusal.{Refusal}
+use Rattle.refusal.specs.Numbers.{refusal-in}
+use Rattle.std.specs.Results.{Cases}
+use Rattle.std.specs.declared.result.Result.{Result}
+use Rattle.std.specs.declared.result.Result.the-variants.{Ok, Err}
 use Rattle.refusal.specs.declared.Refusal.the-variants.{ModeList, ValueLimits, BandList}
 use Rattle.engine.specs.Limits.{cost-ok}
 use Rattle.engine.specs.Views.{Numbers}
@@ -41,3 +46,8 @@ cut-told e c speed h =
       inl t ↦ absurd (none-some (h ∙ sym (let P : Some BandList ≡ band-refused e (Some c) speed = rw t in P)))
       | inr f ↦ f
     ]
+
+-- an answer that is refused nothing is done
+pub when-done : {U : Type 0} (P : U → Type 0) (Q : Refusal → Type 0) (r : Result U Refusal) → refusal-in r ≡ None → Cases r P Q → (u : U) × P u
+when-done P Q (Ok u) e h = (u, h)
+when-done P Q (Err y) e h = absurd (none-some (sym e))

@@ -3,22 +3,25 @@ use mathlib.Core.Path.{_≡_, refl, sym, ap, subst, _∙_}
 use mathlib.Core.Bool.{Bool, true, false, cond, not, _&&_}
 use mathlib.Core.List.{List, [], _∷_}
 use mathlib.Core.Logic.{inl, inr}
-use Prim.Native.Nat.{ℕ}
+use Prim.Native.Nat.{ℕ, zero, suc, _<_}
 use native.Mathlib.Omega.{arith}
 use lib.Dec.{eqb, ltb}
-use lib.ListN.{length}
+use lib.ListN.{length, getD}
 use Rattle.std.specs.declared.option.Option.{Option}
 use Rattle.std.specs.declared.option.Option.the-variants.{Some, None}
 use Rattle.std.proofs.shelf.Tests.{and-parts, and-from, cases-bool}
 use Rattle.table.specs.Ordered.{insert-by, find-by, without, change-by}
 use Rattle.engine.specs.Limits.{every, cost-ok, angle-ok, bands-ok}
-use Rattle.engine.specs.Views.{Numbers, Parts, Right, modes-ok}
+use Rattle.engine.specs.Views.{Numbers, Parts, Right, modes-ok, numbers-of, parts-of}
 use Rattle.engine.specs.Changes.{cut-wrong, card-refusal}
 use Rattle.refusal.specs.Numbers.{first-of, _gives_}
 use Rattle.refusal.specs.declared.Refusal.the-variants.{AngleLimits, ModeList, BandList}
 use Rattle.plan.proofs.Refused.{none-some}
 use Rattle.engine.proofs.Right.{cut-right, recost-right}
-use Rattle.plan.specs.Tables.{Crank, right-card}
+use Rattle.plan.specs.declared.cards.CrankCard.{CrankCard}
+use Rattle.plan.specs.declared.deck.Deck.{Deck}
+use Rattle.plan.specs.Tables.{Crank, right-card, crank-of, cranks-in}
+use Rattle.plan.proofs.Seen.{crank-count, crank-seen}
 use Rattle.plan.specs.Calls.{crank-recosted, crank-cut}
 
 module _ {X : Type 0} (test : X → Bool) (key : X → ℕ) where
@@ -87,3 +90,16 @@ made-right e c p same fine =
     all-pass false true false h = absurd (none-some h)
     all-pass false false true h = absurd (none-some h)
     all-pass false false false h = absurd (none-some h)
+
+pub every-at : {X : Type 0} (test : X → Bool) (xs : List X) (i : ℕ) (d : X) → every test xs ≡ true → i < length xs → test (getD xs i d) ≡ true
+every-at test [] i d all h = absurd (omega arith)
+every-at test (x ∷ xs) zero d all h = and-parts (test x) (every test xs) all .0
+every-at test (x ∷ xs) (suc i) d all h = every-at test xs i d (and-parts (test x) (every test xs) all .1) (omega arith)
+
+-- the engine card at an index is right for its engine
+pub crank-right : (d : Deck) (i : ℕ) (x : CrankCard) → i < d .cranks .used → Right (numbers-of (d .engine)) (parts-of (getD (d .cranks .table) i x .card))
+crank-right d i x h =
+    let e = numbers-of (d .engine) in
+    let many = crank-count (d .cranks) in
+    let ok = every-at (right-card e) (cranks-in (d .cranks)) i (crank-of x) (d .right) (omega arith) in
+    right-parts e (crank-of (getD (d .cranks .table) i x)) (subst (λ c. right-card e c ≡ true) (crank-seen (d .cranks) i x (crank-of x) h) ok)

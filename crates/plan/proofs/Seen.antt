@@ -1,7 +1,7 @@
 -- What a search in a table, and a card stored in it, mean for the list of cards that is seen.
-use mathlib.Core.Path.{_≡_, sym, ap, _∙_}
-use mathlib.Core.List.{List, map}
-use Prim.Native.Nat.{ℕ, _<_}
+use mathlib.Core.Path.{_≡_, refl, sym, ap, _∙_}
+use mathlib.Core.List.{List, [], _∷_, map}
+use Prim.Native.Nat.{ℕ, zero, suc, _≤_, _<_}
 use lib.ListN.{length, getD, set, take}
 use native.Mathlib.Omega.{arith}
 use Rattle.std.proofs.shelf.Lists.{length-map, length-take-le}
@@ -43,3 +43,21 @@ crank-count t = length-map _ crank-of ∙ length-take-le (t .used) (t .table) (o
 
 pub clock-count : (t : TimedTable) → length (clocks-in t) ≡ t .used
 clock-count t = length-map _ clock-of ∙ length-take-le (t .used) (t .table) (omega (arith, t .whole, t .few))
+
+-- an item of a table, as it is seen
+module _ {X Y : Type 0} (f : X → Y) where
+  getD-map : (xs : List X) (i : ℕ) (d : X) (z : Y) → i < length xs → getD (map f xs) i z ≡ f (getD xs i d)
+  getD-map [] i d z h = absurd (omega arith)
+  getD-map (x ∷ xs) zero d z h = refl
+  getD-map (x ∷ xs) (suc i) d z h = getD-map xs i d z (omega arith)
+
+  seen-at : (used : ℕ) (xs : List X) (i : ℕ) (d : X) (z : Y) → i < used → used ≤ length xs → getD (map f (take used xs)) i z ≡ f (getD xs i d)
+  seen-at used xs i d z below within =
+      let long = length-take-le used xs within in
+      getD-map (take used xs) i d z (omega arith) ∙ ap f (getD-take used xs i d below)
+
+pub crank-seen : (t : CrankTable) (i : ℕ) (d : CrankCard) (z : Crank) → i < t .used → getD (cranks-in t) i z ≡ crank-of (getD (t .table) i d)
+crank-seen t i d z h = seen-at crank-of (t .used) (t .table) i d z h (omega (arith, t .whole, t .few))
+
+pub clock-seen : (t : TimedTable) (i : ℕ) (d : TimedCard) (z : Clock) → i < t .used → getD (clocks-in t) i z ≡ clock-of (getD (t .table) i d)
+clock-seen t i d z h = seen-at clock-of (t .used) (t .table) i d z h (omega (arith, t .whole, t .few))

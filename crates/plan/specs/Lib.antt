@@ -2,3 +2,5 @@ pub mod Tables
 pub mod Standing
 pub mod Calls
 pub mod Found
+pub mod Judging
+pub mod Sums

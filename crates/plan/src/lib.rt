@@ -3,5 +3,7 @@ pub mod cards;
 pub mod deck;
 pub mod draft;
 pub mod held;
+pub mod judging;
 pub mod places;
 pub mod tables;
+pub mod verdict;
