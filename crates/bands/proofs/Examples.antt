@@ -9,7 +9,6 @@ use Rattle.std.specs.declared.option.Option.the-variants.{Some, None}
 use Rattle.std.specs.shelf.Lists.{All}
 use Rattle.task.specs.Walks.{ticks}
 use Rattle.task.specs.Graph.{Lawful}
-
 use Rattle.engine.specs.Views.{house-engine}
 use Rattle.bands.proofs.Ready.{Ready}
 use Rattle.bands.specs.Gaps.{Pair, has-gap, allows, gap-value}
@@ -123,17 +122,44 @@ worked = all-both Holds (two-rows ++ three-rows) far-rows (all-both Holds two-ro
 -- ---- the cards are right, so their graphs are lawful
 pub two-right : Ready small-engine two-bands
 two-right = record {
-  angle = refl; modes = refl; bands = refl; turns = lit≤ tt; varies = lit< tt; bounded = lit≤ tt; rises = lit≤ tt; sharpest = lit≤ tt; falls = lit≤ tt; hardest = lit≤ tt;
+  angle = refl;
+  modes = refl;
+  bands = refl;
+  turns = lit≤ tt;
+  varies = lit< tt;
+  bounded = lit≤ tt;
+  rises = lit≤ tt;
+  sharpest = lit≤ tt;
+  falls = lit≤ tt;
+  hardest = lit≤ tt;
 }
 
 pub three-right : Ready small-engine (three-bands 1000)
 three-right = record {
-  angle = refl; modes = refl; bands = refl; turns = lit≤ tt; varies = lit< tt; bounded = lit≤ tt; rises = lit≤ tt; sharpest = lit≤ tt; falls = lit≤ tt; hardest = lit≤ tt;
+  angle = refl;
+  modes = refl;
+  bands = refl;
+  turns = lit≤ tt;
+  varies = lit< tt;
+  bounded = lit≤ tt;
+  rises = lit≤ tt;
+  sharpest = lit≤ tt;
+  falls = lit≤ tt;
+  hardest = lit≤ tt;
 }
 
 pub house-right : Ready house-engine house-bands
 house-right = record {
-  angle = refl; modes = refl; bands = refl; turns = lit≤ tt; varies = lit< tt; bounded = lit≤ tt; rises = lit≤ tt; sharpest = lit≤ tt; falls = lit≤ tt; hardest = lit≤ tt;
+  angle = refl;
+  modes = refl;
+  bands = refl;
+  turns = lit≤ tt;
+  varies = lit< tt;
+  bounded = lit≤ tt;
+  rises = lit≤ tt;
+  sharpest = lit≤ tt;
+  falls = lit≤ tt;
+  hardest = lit≤ tt;
 }
 
 pub two-lawful : Lawful two-graph

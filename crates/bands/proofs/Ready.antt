@@ -21,7 +21,14 @@ pub record Ready (e : Numbers) (c : Parts) : Type 0 where
 -- a value of the kind is one
 pub ready-of : (b : Bands) → Ready (numbers-of (b .engine)) (parts-of (b .card))
 ready-of b = record {
-  angle = b .angled; modes = b .moded; bands = b .banded;
-  turns = b .engine .turns; varies = b .engine .varies; bounded = b .engine .bounded;
-  rises = b .engine .rises; sharpest = b .engine .sharpest; falls = b .engine .falls; hardest = b .engine .hardest;
+  angle = b .angled;
+  modes = b .moded;
+  bands = b .banded;
+  turns = b .engine .turns;
+  varies = b .engine .varies;
+  bounded = b .engine .bounded;
+  rises = b .engine .rises;
+  sharpest = b .engine .sharpest;
+  falls = b .engine .falls;
+  hardest = b .engine .hardest;
 }

@@ -36,14 +36,14 @@ module _ (o : Option Crank) (index cost : ℕ) where
 pub recost-told : (o : Option Crank) (index cost : ℕ) → None ≡ mode-refused o index cost → cost-ok cost ≡ true
 recost-told o index cost h =
     elim (cases-bool (cost-ok cost)) [
-      inl e ↦ e
+      | inl e ↦ e
       | inr e ↦ absurd (elim (cases-lt index (modes-in o)) [ inl lt ↦ none-some (h ∙ sym (wrong-cost o index cost lt e)) | inr le ↦ none-some (h ∙ sym (no-mode o index cost le)) ])
     ]
 
 pub cut-told : (e : Numbers) (c : Crank) (speed : ℕ) → None ≡ band-refused e (Some c) speed → cut-wrong e (c .parts) speed ≡ false
 cut-told e c speed h =
     elim (cases-bool (cut-wrong e (c .parts) speed)) [
-      inl t ↦ absurd (none-some (h ∙ sym (let P : Some BandList ≡ band-refused e (Some c) speed = rw t in P)))
+      | inl t ↦ absurd (none-some (h ∙ sym (let P : Some BandList ≡ band-refused e (Some c) speed = rw t in P)))
       | inr f ↦ f
     ]
 

@@ -30,7 +30,7 @@ module _ {X : Type 0} (test : X → Bool) (key : X → ℕ) where
   every-insert x (y ∷ ys) h all =
       let parts = and-parts (test y) (every test ys) all in
       elim (ltb (key x) (key y)) as (λ b. every test (cond b (x ∷ y ∷ ys) (y ∷ insert-by key x ys)) ≡ true) [
-        true ↦ and-from (test x) _ h all
+        | true ↦ and-from (test x) _ h all
         | false ↦ and-from (test y) _ (parts .0) (every-insert x ys h (parts .1))
       ]
 
@@ -39,7 +39,7 @@ module _ {X : Type 0} (test : X → Bool) (key : X → ℕ) where
   every-without n (y ∷ ys) all =
       let parts = and-parts (test y) (every test ys) all in
       elim (eqb (key y) n) as (λ b. every test (cond b ys (y ∷ without key n ys)) ≡ true) [
-        true ↦ parts .1
+        | true ↦ parts .1
         | false ↦ and-from (test y) _ (parts .0) (every-without n ys (parts .1))
       ]
 
@@ -50,7 +50,7 @@ module _ {X : Type 0} (test : X → Bool) (key : X → ℕ) where
       let parts = and-parts (test y) (every test ys) all in
       let P : Bool → Type 0 = λ b. ((x : X) → cond b (Some y) (find-by key n ys) ≡ Some x → test x ≡ true → test (g x) ≡ true) → every test (cond b (g y ∷ ys) (y ∷ change-by key n g ys)) ≡ true in
       elim (eqb (key y) n) as P [
-        true ↦ λ k. and-from (test (g y)) _ (k y refl (parts .0)) (parts .1)
+        | true ↦ λ k. and-from (test (g y)) _ (k y refl (parts .0)) (parts .1)
         | false ↦ λ k. and-from (test y) _ (parts .0) (every-change n g ys k (parts .1))
       ] keeps
 

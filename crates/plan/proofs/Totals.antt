@@ -3,7 +3,7 @@ use mathlib.Core.Path.{_≡_, refl, sym, ap, subst, _∙_}
 use mathlib.Core.List.{List, [], _∷_, _++_, map}
 use mathlib.Core.Logic.{⊎-elim}
 use Prim.Native.Nat.{ℕ, _+_, _*_, _^_, _≤_, _<_, min}
-use native.Mathlib.Nat.{mul-le-mul-left}
+use native.Mathlib.Nat.{mul-le-mul-left, mul-le-mul-right}
 use native.Mathlib.Omega.{arith}
 use lib.ListN.{length, getD, take, length-append}
 use Rattle.std.proofs.shelf.Lists.{take-more, map-append}
@@ -11,7 +11,10 @@ use Rattle.task.specs.Graph.{Graph, Lawful}
 use Rattle.task.specs.Walks.{Greatest, Total}
 use Rattle.demand.specs.Judged.{Added}
 use Rattle.demand.proofs.Bests.{demand-most}
-use Rattle.plan.specs.Sums.{Grown, Spared}
+use Rattle.plan.specs.declared.verdict.Verdict.{Verdict}
+use Rattle.plan.specs.declared.verdict.Verdict.the-variants.{Fits, Over}
+use Rattle.plan.specs.Judging.{Says}
+use Rattle.plan.specs.Sums.{Grown, Spared, Decides}
 
 -- two greatest demands are one
 pub greatest-one : (g : Graph) (t m n : ℕ) → Greatest g t m → Greatest g t n → m ≤ n
@@ -38,10 +41,10 @@ pub greatest-most : (g : Graph) → Lawful g → (t n : ℕ) → Greatest g t n 
 greatest-most g l t n h =
     ⊎-elim
     (λ w.
-        let inside = w .1 .1 in
-        let most = demand-most g l (w .0) (w .1 .0) (inside .0) in
-        let wide = mul-le-mul-left 100000 (inside .1) in
-        omega (arith, w .1 .2))
+    let inside = w .1 .1 in
+    let most = demand-most g l (w .0) (w .1 .0) (inside .0) in
+    let wide = mul-le-mul-left 100000 (inside .1) in
+    omega (arith, w .1 .2))
     (λ z. omega (arith, z .0))
     (h .reached)
 
@@ -65,8 +68,7 @@ grown-then gs hs horizon xs ys zs p q = record {
       let a = p .at t h in
       let b = q .at t h in
       let long = length-append gs hs in
-      let wide : length (gs ++ hs) * (100000 * t) ≡ length gs * (100000 * t) + length hs * (100000 * t) = ap (λ n. n * (100000 * t)) long ∙ native.Mathlib.Nat.add-mul (length gs) (length hs) (100000 * t) in
-      (
+      let wide : length (gs ++ hs) * (100000 * t) ≡ length gs * (100000 * t) + length hs * (100000 * t) = ap (λ n. n * (100000 * t)) long ∙ native.Mathlib.Nat.add-mul (length gs) (length hs) (100000 * t) in (
         a .0 + b .0,
         total-append gs hs t (a .0) (b .0) (a .1) (b .1),
         omega (arith, a .2, b .2),
@@ -86,3 +88,26 @@ pub grown-more : {X : Type 0} (f : X → Graph) (xs : List X) (i : ℕ) (d : X) 
 grown-more f xs i d g horizon xs₀ ys zs h e p q =
     let list = ap (map f) (take-more xs i d h) ∙ map-append f (take i xs) (getD xs i d ∷ []) ∙ ap (λ x. map f (take i xs) ++ x ∷ []) (sym e) in
     subst (λ l. Grown l horizon xs₀ zs) (sym list) (grown-then (map f (take i xs)) (g ∷ []) horizon xs₀ ys zs p q)
+
+-- totals that grew from 0 by the demands of few enough tasks are those demands
+pub summed-from : (gs : List Graph) (horizon : ℕ) (xs ys : List ℕ) → length gs ≤ 21 → horizon ≤ 20000 → ((t : ℕ) → t ≤ horizon → getD xs t 0 ≡ 0) → Grown gs horizon xs ys → (t : ℕ) → t ≤ horizon → Total gs t (getD ys t 0)
+summed-from gs horizon xs ys few near zero grown t h =
+    let a = grown .at t h in
+    let z = zero t h in
+    let wide = mul-le-mul-right (100000 * t) few in
+    let same : a .0 ≡ getD ys t 0 = omega (arith, a .2, a .3 (omega (arith, a .2))) in
+    subst (Total gs t) same (a .1)
+
+-- a verdict over the totals is one over the tasks
+pub says-from : (gs : List Graph) (horizon : ℕ) (ys : List ℕ) → ((t : ℕ) → t ≤ horizon → Total gs t (getD ys t 0)) → (v : Verdict) → Decides v ys horizon → Says v gs horizon
+says-from gs horizon ys summed (Fits h) d =
+    (d .0, λ t n below total. omega (arith, total-one gs t n (getD ys t 0) total (summed t below), d .1 t below))
+says-from gs horizon ys summed (Over t n) d =
+    let at = d .0 in (
+      at .inside,
+      omega (arith, at .exceeds, d .1),
+      subst (Total gs t) (d .1) (summed t (at .inside)),
+      λ s m below total.
+          let near : s ≤ horizon = omega (arith, at .inside) in
+          omega (arith, total-one gs s m (getD ys s 0) total (summed s near), at .least s below),
+    )

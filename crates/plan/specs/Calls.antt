@@ -48,9 +48,9 @@ cards-present s = not (eqb (length (s .cranks)) 0 && eqb (length (s .clocks)) 0)
 
 abbrev pub engine-refused : Cards → Numbers → Option Refusal
 engine-refused s e = first-of (
-  cards-present s gives OutOfTurn ∷
-  not (engine-ok (e .least) (e .greatest) (e .rise) (e .fall) (e .entry)) gives EngineLimits ∷
-  [])
+    cards-present s gives OutOfTurn ∷
+    not (engine-ok (e .least) (e .greatest) (e .rise) (e .fall) (e .entry)) gives EngineLimits ∷
+    [])
 
 abbrev pub with-engine : Cards → Numbers → Cards
 with-engine s e = record { engine = e; cranks = s .cranks; clocks = s .clocks }
@@ -59,13 +59,13 @@ with-engine s e = record { engine = e; cranks = s .cranks; clocks = s .clocks }
 
 abbrev pub crank-refused : Cards → Crank → Option Refusal
 crank-refused s c = first-of (
-  (eqb (c .number) 0 || in-use s (c .number)) gives NumberTaken ∷
-  leb 4 (length (s .cranks)) gives NoPlace ∷
-  not (angle-ok (s .engine .greatest) (c .parts .angle)) gives AngleLimits ∷
-  not (modes-ok (s .engine .least) (s .engine .greatest) (c .parts .modes)) gives ModeList ∷
-  not (bands-ok (s .engine .least) (s .engine .greatest) (c .parts .bands)) gives BandList ∷
-  not (between 1 1000 (c .share)) gives ValueLimits ∷
-  [])
+    (eqb (c .number) 0 || in-use s (c .number)) gives NumberTaken ∷
+    leb 4 (length (s .cranks)) gives NoPlace ∷
+    not (angle-ok (s .engine .greatest) (c .parts .angle)) gives AngleLimits ∷
+    not (modes-ok (s .engine .least) (s .engine .greatest) (c .parts .modes)) gives ModeList ∷
+    not (bands-ok (s .engine .least) (s .engine .greatest) (c .parts .bands)) gives BandList ∷
+    not (between 1 1000 (c .share)) gives ValueLimits ∷
+    [])
 
 abbrev pub with-crank : Cards → Crank → Cards
 with-crank s c = with-cranks s (insert-by (λ x. x .number) c (s .cranks))
@@ -77,10 +77,10 @@ clock-ok c = between 1 100000000 (c .period) && (between 1 (c .period) (c .deadl
 
 abbrev pub clock-refused : Cards → Clock → Option Refusal
 clock-refused s c = first-of (
-  (eqb (c .number) 0 || in-use s (c .number)) gives NumberTaken ∷
-  leb 16 (length (s .clocks)) gives NoPlace ∷
-  not (clock-ok c) gives ValueLimits ∷
-  [])
+    (eqb (c .number) 0 || in-use s (c .number)) gives NumberTaken ∷
+    leb 16 (length (s .clocks)) gives NoPlace ∷
+    not (clock-ok c) gives ValueLimits ∷
+    [])
 
 abbrev pub with-clock : Cards → Clock → Cards
 with-clock s c = with-clocks s (insert-by (λ x. x .number) c (s .clocks))
@@ -98,10 +98,10 @@ mode-refused c index cost = first-of (leb (modes-in c) index gives ModeList ∷ 
 
 abbrev pub recost-refused : Cards → ℕ → ℕ → ℕ → Option Refusal
 recost-refused s n index cost = first-of (
-  not (in-use s n) gives NoSuchCard ∷
-  leb (modes-in (crank-at s n)) index gives ModeList ∷
-  not (cost-ok cost) gives ValueLimits ∷
-  [])
+    not (in-use s n) gives NoSuchCard ∷
+    leb (modes-in (crank-at s n)) index gives ModeList ∷
+    not (cost-ok cost) gives ValueLimits ∷
+    [])
 
 abbrev pub crank-recosted : ℕ → ℕ → Crank → Crank
 crank-recosted index cost c = record { number = c .number; share = c .share; parts = recost (c .parts) index cost }
@@ -128,9 +128,9 @@ band-refused e c speed = first-of (no-cut e c speed gives BandList ∷ [])
 
 abbrev pub cut-refused : Cards → ℕ → ℕ → Option Refusal
 cut-refused s n speed = first-of (
-  not (in-use s n) gives NoSuchCard ∷
-  no-cut (s .engine) (crank-at s n) speed gives BandList ∷
-  [])
+    not (in-use s n) gives NoSuchCard ∷
+    no-cut (s .engine) (crank-at s n) speed gives BandList ∷
+    [])
 
 abbrev pub crank-cut : ℕ → Crank → Crank
 crank-cut speed c = record { number = c .number; share = c .share; parts = cut (c .parts) speed }

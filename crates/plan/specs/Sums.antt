@@ -3,6 +3,9 @@ use mathlib.Core.Path.{_≡_}
 use mathlib.Core.List.{List}
 use Prim.Native.Nat.{ℕ, _+_, _*_, _^_, _≤_, _<_}
 use lib.ListN.{length, getD}
+use Rattle.demand.specs.Judged.{Within, First-over}
+use Rattle.plan.specs.declared.verdict.Verdict.{Verdict}
+use Rattle.plan.specs.declared.verdict.Verdict.the-variants.{Fits, Over}
 use Rattle.task.specs.Graph.{Graph}
 use Rattle.task.specs.Walks.{Total}
 
@@ -15,3 +18,8 @@ pub record Grown (gs : List Graph) (horizon : ℕ) (totals totals′ : List ℕ)
 -- no cell from place n on has changed
 abbrev pub Spared : ℕ → List ℕ → List ℕ → Type 0
 Spared n xs xs′ = (i : ℕ) → n ≤ i → getD xs′ i 0 ≡ getD xs i 0
+
+-- what a verdict says of the totals themselves
+abbrev pub Decides : Verdict → List ℕ → ℕ → Type 0
+Decides (Fits h) totals horizon = (h ≡ horizon) × Within totals horizon
+Decides (Over t n) totals horizon = First-over totals horizon t × (getD totals t 0 ≡ n)

@@ -28,7 +28,10 @@ crank-of c = record { number = c .number; share = c .share .thousandths; parts =
 
 abbrev pub clock-of : TimedCard → Clock
 clock-of c = record {
-  number = c .number; period = c .timed .period; deadline = c .timed .deadline; cost = c .timed .cost;
+  number = c .number;
+  period = c .timed .period;
+  deadline = c .timed .deadline;
+  cost = c .timed .cost;
 }
 
 abbrev pub cranks-in : CrankTable → List Crank

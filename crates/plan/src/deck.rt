@@ -28,6 +28,6 @@ pub enum Place {
 // A plan that is being made. The mark is the horizon to which it was judged to fit, 0 where it was not.
 #[derive(Drop)]
 pub struct Draft {
-    pub deck: Deck,
-    pub mark: u32,
+    pub(crate) deck: Deck,
+    pub(crate) mark: u32,
 }

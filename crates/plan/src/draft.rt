@@ -52,7 +52,14 @@ impl Draft {
     }
 
     // Replaces the engine of a plan without cards.
-    pub fn set_engine(&mut self, least: u32, greatest: u32, rise: u16, fall: u16, entry: u16) -> Result<(), Refusal>
+    pub fn set_engine(
+        &mut self,
+        least: u32,
+        greatest: u32,
+        rise: u16,
+        fall: u16,
+        entry: u16,
+    ) -> Result<(), Refusal>
         ensures refusal { λ r. ⌜ refusal-in r ≡ engine-refused (cards-of (now (self .entry) .deck)) (record { least = least; greatest = greatest; rise = rise; fall = fall; entry = entry }) ⌝ }
         ensures done { λ r. ⌜ Cases r (λ _. stands (now (self .exit)) ≡ changed (with-engine (cards-of (now (self .entry) .deck)) (record { least = least; greatest = greatest; rise = rise; fall = fall; entry = entry }))) (λ _. now (self .exit) ≡ now (self .entry)) ⌝ }
     {
@@ -66,7 +73,14 @@ impl Draft {
     }
 
     // Puts in an engine card.
-    pub fn add_engine_card(&mut self, number: u8, angle: u32, share: u16, modes: &[Mode], bands: &[u32]) -> Result<(), Refusal>
+    pub fn add_engine_card(
+        &mut self,
+        number: u8,
+        angle: u32,
+        share: u16,
+        modes: &[Mode],
+        bands: &[u32],
+    ) -> Result<(), Refusal>
         ensures refusal { λ r. ⌜ refusal-in r ≡ crank-refused (cards-of (now (self .entry) .deck)) (record { number = number; share = share; parts = record { angle = angle; modes = now (modes .entry); bands = now (bands .entry) } }) ⌝ }
         ensures done { λ r. ⌜ Cases r (λ _. stands (now (self .exit)) ≡ changed (with-crank (cards-of (now (self .entry) .deck)) (record { number = number; share = share; parts = record { angle = angle; modes = now (modes .entry); bands = now (bands .entry) } }))) (λ _. now (self .exit) ≡ now (self .entry)) ⌝ }
     {
@@ -78,13 +92,23 @@ impl Draft {
         }
         let card = Card::new(&self.deck.engine, angle, modes, bands)?;
         let share = Share::new(share)?;
-        self.deck.add_crank(CrankCard { number, share, card });
+        self.deck.add_crank(CrankCard {
+            number,
+            share,
+            card,
+        });
         self.mark = 0;
         Ok(())
     }
 
     // Puts in a timed card.
-    pub fn add_timed_card(&mut self, number: u8, period: u32, deadline: u32, cost: u32) -> Result<(), Refusal>
+    pub fn add_timed_card(
+        &mut self,
+        number: u8,
+        period: u32,
+        deadline: u32,
+        cost: u32,
+    ) -> Result<(), Refusal>
         ensures refusal { λ r. ⌜ refusal-in r ≡ clock-refused (cards-of (now (self .entry) .deck)) (record { number = number; period = period; deadline = deadline; cost = cost }) ⌝ }
         ensures done { λ r. ⌜ Cases r (λ _. stands (now (self .exit)) ≡ changed (with-clock (cards-of (now (self .entry) .deck)) (record { number = number; period = period; deadline = deadline; cost = cost }))) (λ _. now (self .exit) ≡ now (self .entry)) ⌝ }
     {

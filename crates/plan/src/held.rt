@@ -46,7 +46,13 @@ impl CrankTable {
     }
 
     // Changes the cost of one mode of the card that stands there.
-    pub(crate) fn recost(&mut self, number: u8, at: usize, index: u8, cost: u32) -> Result<(), Refusal>
+    pub(crate) fn recost(
+        &mut self,
+        number: u8,
+        at: usize,
+        index: u8,
+        cost: u32,
+    ) -> Result<(), Refusal>
         requires { ⌜ At-crank (now self) number at ⌝ }
         ensures refusal { λ r. ⌜ refusal-in r ≡ mode-refused (find-by (λ c. c .number) number (cranks-in (now (self .entry)))) index cost ⌝ }
         ensures done { λ r. ⌜ Cases r (λ _. cranks-in (now (self .exit)) ≡ change-by (λ c. c .number) number (crank-recosted index cost) (cranks-in (now (self .entry)))) (λ _. now (self .exit) ≡ now (self .entry)) ⌝ }
@@ -63,7 +69,13 @@ impl CrankTable {
     }
 
     // Cuts a band of the card that stands there.
-    pub(crate) fn cut(&mut self, engine: &Engine, number: u8, at: usize, speed: u32) -> Result<(), Refusal>
+    pub(crate) fn cut(
+        &mut self,
+        engine: &Engine,
+        number: u8,
+        at: usize,
+        speed: u32,
+    ) -> Result<(), Refusal>
         requires { ⌜ At-crank (now self) number at ⌝ }
         ensures refusal { λ r. ⌜ refusal-in r ≡ band-refused (numbers-of (now (engine .entry))) (find-by (λ c. c .number) number (cranks-in (now (self .entry)))) speed ⌝ }
         ensures done { λ r. ⌜ Cases r (λ _. cranks-in (now (self .exit)) ≡ change-by (λ c. c .number) number (crank-cut speed) (cranks-in (now (self .entry)))) (λ _. now (self .exit) ≡ now (self .entry)) ⌝ }
@@ -103,7 +115,13 @@ impl TimedTable {
     }
 
     // Changes the cost of the card that stands there; it has the index 0.
-    pub(crate) fn recost(&mut self, number: u8, at: usize, index: u8, cost: u32) -> Result<(), Refusal>
+    pub(crate) fn recost(
+        &mut self,
+        number: u8,
+        at: usize,
+        index: u8,
+        cost: u32,
+    ) -> Result<(), Refusal>
         requires { ⌜ At-timed (now self) number at ⌝ }
         ensures refusal { λ r. ⌜ refusal-in r ≡ mode-refused None index cost ⌝ }
         ensures done { λ r. ⌜ Cases r (λ _. clocks-in (now (self .exit)) ≡ change-by (λ c. c .number) number (clock-recosted cost) (clocks-in (now (self .entry)))) (λ _. now (self .exit) ≡ now (self .entry)) ⌝ }

@@ -13,7 +13,7 @@ ghost use Rattle.demand.specs.Judged.{lent-refusal};
 ghost use Rattle.plan.specs.Tables.{Crank, Clock, cranks-in, clocks-in};
 ghost use Rattle.plan.specs.Standing.{cards-of, stands};
 ghost use Rattle.plan.specs.Judging.{crank-graph, clock-graph, tasks, Judged, mark-of};
-ghost use Rattle.plan.specs.Sums.{Grown, Spared};
+ghost use Rattle.plan.specs.Sums.{Grown, Spared, Decides};
 use crate::deck::Deck;
 use crate::deck::Draft;
 use crate::verdict::Verdict;
@@ -95,5 +95,59 @@ impl Deck {
             let task = self.timed_task(at);
             add_task(&task, horizon, work, totals);
         }
+    }
+}
+
+impl Verdict {
+    // The mark that this verdict sets: the horizon to which a plan fits, else 0.
+    pub fn mark(self) -> u32
+        ensures { λ r. ⌜ r ≡ mark-of self ⌝ }
+    {
+        match self {
+            Verdict::Fits { horizon } => horizon,
+            Verdict::Over { .. } => 0,
+        }
+    }
+
+    // The verdict over totals.
+    fn over(totals: &[u64], horizon: u32) -> Verdict
+        ensures { λ r. ⌜ Decides r (now (totals .entry)) horizon ⌝ }
+    {
+        match first_over(totals, horizon) {
+            Some((at, total)) => Verdict::Over { at, total },
+            None => Verdict::Fits { horizon },
+        }
+    }
+}
+
+impl Draft {
+    // The horizon to which the plan was judged to fit since its last change, else 0.
+    pub fn mark(&self) -> u32
+        ensures { λ r. ⌜ r ≡ stands (now (self .entry)) .mark ⌝ }
+    {
+        self.mark
+    }
+
+    // Judges the plan with a guest: the summed demand of all tasks at every t up to the horizon,
+    // and whether one of these sums exceeds its t.
+    pub fn judge<G: Task>(
+        &mut self,
+        guest: &G,
+        horizon: u32,
+        work: &mut [u32],
+        totals: &mut [u64],
+    ) -> Result<Verdict, Refusal>
+        ensures refusal { λ r. ⌜ refusal-in r ≡ lent-refusal horizon (length (now (work .entry))) (length (now (totals .entry))) ⌝ }
+        ensures judged { λ r. ⌜ Cases r (λ v. Judged (tasks (cards-of (now (self .entry) .deck)) (G·Task .graph (now (guest .entry)))) horizon (now (work .entry)) (now (work .exit)) (now (totals .entry)) (now (totals .exit)) v) (λ _. (now (work .exit) ≡ now (work .entry)) × (now (totals .exit) ≡ now (totals .entry))) ⌝ }
+        ensures marked { λ r. ⌜ Cases r (λ v. (now (self .exit) .deck ≡ now (self .entry) .deck) × (now (self .exit) .mark ≡ mark-of v)) (λ _. now (self .exit) ≡ now (self .entry)) ⌝ }
+    {
+        check_lent(horizon, work.len(), totals.len())?;
+        clear(totals, horizon);
+        self.deck.add_cranks(horizon, work, totals);
+        self.deck.add_timeds(horizon, work, totals);
+        add_task(guest, horizon, work, totals);
+        let verdict = Verdict::over(totals, horizon);
+        self.mark = verdict.mark();
+        Ok(verdict)
     }
 }

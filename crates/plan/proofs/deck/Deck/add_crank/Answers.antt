@@ -8,9 +8,8 @@ use Rattle.plan.proofs.deck.Deck.add_crank.Needs as need
 
 pub ghost-self : need.ghost-self
 ghost-self c =
-    let deck = c .args .self .now in
-    (
+    let deck = c .args .self .now in (
       subst (λ l. every (right-card (numbers-of (deck .engine))) l ≡ true) (sym (c .add .ensures))
-      (every-insert (right-card (numbers-of (deck .engine))) (λ x. x .number) (crank-of (c .args .card)) (cranks-in (deck .cranks)) (c .pre .right) (deck .right)),
+          (every-insert (right-card (numbers-of (deck .engine))) (λ x. x .number) (crank-of (c .args .card)) (cranks-in (deck .cranks)) (c .pre .right) (deck .right)),
       tt,
     )

@@ -18,10 +18,9 @@ none = record { number = 0; share = 0; parts = record { angle = 0; modes = []; b
 pub loop-at-again : need.loop-at-again
 loop-at-again c =
     let deck = c .args .self .now in
-    let many = crank-count (deck .cranks) in
-    (
+    let many = crank-count (deck .cranks) in (
       grown-more (crank-graph (numbers-of (deck .engine))) (cranks-in (deck .cranks)) (c .loop-at .at) none _ (c .args .horizon) (c .args .totals .now) (c .loop-at .totals) (c .add-task .last .totals)
-      (omega arith) (c .crank-task-task .ensures none) (c .loop-at .inv .0) (c .add-task .ensures .sums),
+          (omega arith) (c .crank-task-task .ensures none) (c .loop-at .inv .0) (c .add-task .ensures .sums),
       spared-then (24 * (c .args .horizon + 1)) (c .args .work .now) (c .loop-at .work) (c .add-task .last .work) (c .loop-at .inv .1) (c .add-task .ensures .spare),
     )
 

@@ -18,10 +18,9 @@ none = record { number = 0; period = 0; deadline = 0; cost = 0 }
 pub loop-at-again : need.loop-at-again
 loop-at-again c =
     let deck = c .args .self .now in
-    let many = clock-count (deck .timeds) in
-    (
+    let many = clock-count (deck .timeds) in (
       grown-more (clock-graph (numbers-of (deck .engine))) (clocks-in (deck .timeds)) (c .loop-at .at) none _ (c .args .horizon) (c .args .totals .now) (c .loop-at .totals) (c .add-task .last .totals)
-      (omega arith) (c .timed-task-task .ensures none) (c .loop-at .inv .0) (c .add-task .ensures .sums),
+          (omega arith) (c .timed-task-task .ensures none) (c .loop-at .inv .0) (c .add-task .ensures .sums),
       spared-then (24 * (c .args .horizon + 1)) (c .args .work .now) (c .loop-at .work) (c .add-task .last .work) (c .loop-at .inv .1) (c .add-task .ensures .spare),
     )
 

@@ -13,10 +13,9 @@ use Rattle.plan.proofs.deck.Deck.cut.Needs as need
 pub ghost-self : need.ghost-self
 ghost-self c =
     let deck = c .args .self .now in
-    let e = numbers-of (deck .engine) in
-    (
+    let e = numbers-of (deck .engine) in (
       cranks-kept deck (c .cut .last .self) _ (c .cut .result) (c .cut .ensures .done)
-      (λ fine.
+          (λ fine.
           every-change (right-card e) (λ x. x .number) (c .args .number) (crank-cut (c .args .speed)) (cranks-in (deck .cranks))
           (λ x found ok. cut-card-right e x (c .args .speed) (cut-told e x (c .args .speed) (sym fine ∙ c .cut .ensures .refusal ∙ ap (λ o. band-refused e o (c .args .speed)) found)) ok) (deck .right)),
       tt,

@@ -5,7 +5,6 @@ use Rattle.table.specs.Found.{First}
 use Rattle.plan.proofs.Maps.{lacks-seen}
 use Rattle.plan.proofs.deck.Deck.place.Needs as need
 
-
 pub returns-in-Some-find : need.returns-in-Some-find
 returns-in-Some-find c =
     let deck = c .args .self .now in
@@ -14,8 +13,7 @@ returns-in-Some-find c =
 
 pub returns-in-None : need.returns-in-None
 returns-in-None c =
-    let deck = c .args .self .now in
-    (
+    let deck = c .args .self .now in (
       lacks-seen crank-of (λ x. x .number) (c .args .number) _ (take (deck .cranks .used) (deck .cranks .table)) (c .from-key .ensures) (c .in-rest .ensures tt),
       lacks-seen clock-of (λ x. x .number) (c .args .number) _ (take (deck .timeds .used) (deck .timeds .table)) (c .from-key .ensures) (c .in-None .ensures tt),
     )

@@ -14,17 +14,16 @@ use Rattle.plan.proofs.deck.Deck.recost.Needs as need
 pub ghost-self : need.ghost-self
 ghost-self c =
     let deck = c .args .self .now in
-    let e = numbers-of (deck .engine) in
-    (
+    let e = numbers-of (deck .engine) in (
       cranks-kept deck (c .recost .last .self) _ (c .recost .result) (c .recost .ensures .done)
-      (λ fine.
+          (λ fine.
           every-change (right-card e) (λ x. x .number) (c .args .number) (crank-recosted (c .args .index) (c .args .cost)) (cranks-in (deck .cranks))
           (λ x found ok. recosted-right e x (c .args .index) (c .args .cost) (recost-told (find-by (λ y. y .number) (c .args .number) (cranks-in (deck .cranks))) (c .args .index) (c .args .cost) (sym fine ∙ c .recost .ensures .refusal)) ok) (deck .right)),
       tt,
     )
 
 pub returns-in-Crank : need.returns-in-Crank
-returns-in-Crank c = 
+returns-in-Crank c =
     let deck = c .args .self .now in
     let at = c .in-Crank .ensures tt in
     record {
@@ -37,7 +36,7 @@ returns-in-Crank c =
     }
 
 pub returns-in-Timed : need.returns-in-Timed
-returns-in-Timed c = 
+returns-in-Timed c =
     let deck = c .args .self .now in
     let at = c .in-Timed .ensures tt in
     record {

@@ -14,8 +14,7 @@ use Rattle.plan.proofs.deck.Deck.take_out.Needs as need
 pub ghost-self : need.ghost-self
 ghost-self c =
     let deck = c .args .self .now in
-    let test = right-card (numbers-of (deck .engine)) in
-    (
+    let test = right-card (numbers-of (deck .engine)) in (
       subst (λ l. every test l ≡ true) (sym (c .take-out .ensures)) (every-without test (λ x. x .number) (c .args .number) (cranks-in (deck .cranks)) (deck .right)),
       tt,
     )

@@ -45,6 +45,6 @@ returns c =
       done =
           crank-stored held (c .args .number) (c .args .at) _ d (crank-recosted (c .args .index) (c .args .cost)) (c .pre)
           (ap (λ ms. record { number = card .number; share = card .share .thousandths; parts = record { angle = card .card .angle; modes = ms; bands = bands-of (card .card) } })
-            (ap (λ i. take (card .card .modes .used) (set (card .card .modes .table) i (with-cost (getD (card .card .modes .table) i (record { lower = 0; cost = 0 })) (c .args .cost)))) (c .from-index .ensures)
-            ∙ recosted-set (card .card .modes .used) (card .card .modes .table) (c .args .index) (c .args .cost) (record { lower = 0; cost = 0 })));
+          (ap (λ i. take (card .card .modes .used) (set (card .card .modes .table) i (with-cost (getD (card .card .modes .table) i (record { lower = 0; cost = 0 })) (c .args .cost)))) (c .from-index .ensures)
+          ∙ recosted-set (card .card .modes .used) (card .card .modes .table) (c .args .index) (c .args .cost) (record { lower = 0; cost = 0 })));
     }

@@ -11,5 +11,5 @@ pub returns : need.returns
 returns c =
     let held = c .args .self .now in
     ap (map crank-of) (c .remove .ensures .items (c .pre .0) (omega (arith, held .whole, held .few))
-      ∙ sym (without-used (λ x. x .number) (c .args .number) (held .used) (held .table) (c .args .at) (c .pre .0) (c .pre .1)))
+    ∙ sym (without-used (λ x. x .number) (c .args .number) (held .used) (held .table) (c .args .at) (c .pre .0) (c .pre .1)))
     ∙ map-without crank-of (λ x. x .number) (c .args .number) (take (held .used) (held .table))

@@ -15,7 +15,7 @@ returns-in-Ok c =
     let card = getD (held .table) (c .args .at) d in
     let told = c .in-Ok .ensures tt in
     let seen : clock-of (record { number = card .number; timed = c .recost .last .self }) ≡ clock-recosted (c .args .cost) (clock-of card) =
-      λ i. record { number = card .number; period = told .done .0 i; deadline = told .done .1 i; cost = told .done .2 i }
+    λ i. record { number = card .number; period = told .done .0 i; deadline = told .done .1 i; cost = told .done .2 i }
     in
     record {
       refusal = recost-fine None (c .args .index) (c .args .cost) (omega arith) (sym (told .when));
