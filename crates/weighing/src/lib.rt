@@ -1,0 +1,5 @@
+// The run of a plan file: from its bytes to the lines that weigh prints.
+pub mod line;
+pub mod noting;
+pub mod open_card;
+pub mod run;
