@@ -1,1 +1,4 @@
 pub mod Lawful
+pub mod Existing
+pub mod Windows
+pub mod Following

@@ -1,3 +1,4 @@
 pub mod Graph
 pub mod Walks
 pub mod Kinds
+pub mod Jobs

@@ -1,3 +1,4 @@
 pub mod Lines
 pub mod Pending
 pub mod Running
+pub mod Turns

@@ -1,1 +1,1 @@
-// The run of a file against a new plan.
+// later
