@@ -7,3 +7,7 @@ pub mod Leaving
 pub mod Lawful
 pub mod Ready
 pub mod Examples
+pub mod TurnsArith
+pub mod TurnsSpeeds
+pub mod Turns
+pub mod TurnsExamples

@@ -1,4 +1,5 @@
 pub mod Gaps
 pub mod Graphs
 pub mod Rules
+pub mod Turns
 pub mod Examples
