@@ -4,3 +4,4 @@ pub mod Refused
 pub mod Rights
 pub mod Decks
 pub mod Totals
+pub mod Examples

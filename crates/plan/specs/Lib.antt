@@ -4,3 +4,4 @@ pub mod Calls
 pub mod Found
 pub mod Judging
 pub mod Sums
+pub mod Examples

@@ -7,3 +7,4 @@ pub mod judging;
 pub mod places;
 pub mod tables;
 pub mod verdict;
+pub mod worked;

@@ -1,8 +1,8 @@
 -- What one turn of a run means for the lines that are printed.
 use mathlib.Core.Path.{_≡_, refl, sym, ap, subst, _∙_}
-use mathlib.Core.Bool.{true, false, cond}
+use mathlib.Core.Bool.{Bool, true, false, cond}
 use mathlib.Core.List.{List, [], _∷_, _++_}
-use mathlib.Core.Logic.{_⊎_, inl, inr, ⊎-elim}
+use mathlib.Core.Logic.{inl, inr}
 use Prim.Native.Nat.{ℕ, _+_, _<_}
 use native.Mathlib.Omega.{arith}
 use Rattle.std.specs.Vec.{listOf}
@@ -10,8 +10,7 @@ use Rattle.std.specs.declared.option.Option.{Option}
 use Rattle.std.specs.declared.option.Option.the-variants.{Some, None}
 use Rattle.std.specs.declared.result.Result.{Result}
 use Rattle.std.specs.declared.result.Result.the-variants.{Ok, Err}
-use Rattle.std.proofs.shelf.Tests.{cases-bool}
-use Rattle.refusal.specs.declared.Refusal.{Refusal}
+use Rattle.refusal.specs.declared.Refusal.the-variants.{CutShort}
 use Rattle.plan.specs.Standing.{Standing}
 use Rattle.planfile.specs.declared.record.Record.{Record}
 use Rattle.planfile.specs.declared.record.Open.{Open}
@@ -49,7 +48,26 @@ took-end x at r s′ g c e =
 -- the bytes end
 pub end-prints : (bytes : List ℕ) (s : Standing) (p : Pending) (o : Open) (at : ℕ) → read-at o at bytes ≡ Ok None → Prints bytes s p o at (listOf (last-line o p))
 end-prints bytes s p o at e =
-    ⊎-elim
-    (λ t. subst (λ b. Prints bytes s p o at (listOf (cond b _ None))) (sym t) (unfinished s p o at e t))
-    (λ f. subst (λ b. Prints bytes s p o at (listOf (cond b _ None))) (sym f) (finished s p o at e f))
-    (cases-bool (left-open o))
+    let P : Bool → Type 0 = λ b. left-open o ≡ b → Prints bytes s p o at (listOf (cond b (Some (No CutShort (p .at))) None)) in
+    let go : (b : Bool) → P b = elim [ true ↦ λ t. unfinished s p o at e t | false ↦ λ f. finished s p o at e f ] in
+    go (left-open o) refl
+
+-- A record r was read at a place: x stands before it, and the run stands after it with the plan s′.
+module _ (bytes : List ℕ) (x : State) (r : Record) (s′ : Standing) (here : read-at (x .open-now) (x .at) bytes ≡ Ok (Some r)) where
+  abbrev pub read : State
+  read = record { plan = x .plan; card = noted (x .card) (x .at) r; open-now = open-after (x .open-now) r; at = at-after (x .at) (Ok (Some r)) }
+
+  abbrev pub after : State
+  after = record { plan = s′; card = noted (x .card) (x .at) r; open-now = open-after (x .open-now) r; at = at-after (x .at) (Ok (Some r)) }
+
+  pub turned : (t : Turn) → Took read (x .at) r s′ t → Turned bytes x after t
+  turned (Goes line) (inl ok) = (λ rest on. taken (x .plan) (x .card) (x .open-now) (x .at) r s′ line rest here ok on, omega arith)
+  turned (Goes line) (inr no-line) = (
+    λ rest on.
+        subst (λ l. Prints-on bytes x (listOf l ++ rest)) (sym (no-line .3))
+        (refused (x .plan) (x .card) (x .open-now) (x .at) r s′ (no-line .0) rest here (no-line .1) (no-line .2) on),
+    omega arith,
+  )
+  turned (Ends line) w =
+      subst (λ l. Prints-on bytes x (listOf l)) (sym (w .3))
+      (stopped (x .plan) (x .card) (x .open-now) (x .at) r s′ (w .0) here (w .1) (w .2))

@@ -1,9 +1,10 @@
 // The run of a file against a new plan.
 ghost use Prim.Native.Nat.{_≤_, _<_};
 ghost use mathlib.Core.Path.{_≡_};
+ghost use mathlib.Core.List.{_++_};
 ghost use lib.ListN.{length};
 ghost use Rattle.std.specs.Of.Vec.{vec-items};
-ghost use Rattle.std.specs.Vec.{made};
+ghost use Rattle.std.specs.Vec.{made, listOf};
 ghost use Rattle.plan.specs.Calls.{new-plan};
 ghost use Rattle.plan.specs.Standing.{stands};
 ghost use Rattle.planfile.specs.declared.record.Open.the-variants as opens;
@@ -135,14 +136,26 @@ impl<'a> Run<'a> {
     {
         let at = self.reader.at();
         match self.reader.next() {
-            Ok(Some(record)) => {
-                self.card.note(at, record)?;
-                Ok(self.taken(at, record, work, totals))
-            }
-            Ok(None) => Ok(Turn::Ends(self.last_line())),
+            Ok(handed) => match handed {
+                Some(record) => {
+                    self.card.note(at, record)?;
+                    Ok(self.taken(at, record, work, totals))
+                }
+                None => Ok(Turn::Ends(self.last_line())),
+            },
             Err(fault) => Ok(Turn::Ends(Some(line_of(fault)))),
         }
     }
+}
+
+// Adds a turn's line, where it has one.
+fn print(lines: &mut Vec<Line>, line: Option<Line>) -> Result<(), AllocError>
+    ensures { λ r. ⌜ made r (λ _. vec-items (now (lines .exit)) ≡ vec-items (now (lines .entry)) ++ listOf line) ⌝ }
+{
+    if let Some(line) = line {
+        lines.push(line)?;
+    }
+    Ok(())
 }
 
 // Runs a file, turn by turn.
@@ -159,13 +172,11 @@ fn run_file(heap: Global, bytes: &[u8]) -> Result<Vec<Line>, AllocError>
     };
     loop {
         match run.turn(&mut work, &mut totals)? {
-            Turn::Goes(Some(line)) => lines.push(line)?,
-            Turn::Goes(None) => {}
-            Turn::Ends(Some(line)) => {
-                lines.push(line)?;
+            Turn::Goes(line) => print(&mut lines, line)?,
+            Turn::Ends(line) => {
+                print(&mut lines, line)?;
                 return Ok(lines);
             }
-            Turn::Ends(None) => return Ok(lines),
         }
     }
 }
