@@ -37,8 +37,7 @@ from-fault place (Err f) g e =
 -- a record that is refused and ends the reading
 pub took-end : (x : State) (at : ℕ) (r : Record) (s′ : Standing) (g : FileFault) → Carried x at r s′ (Err g) → ends r (g .refusal) ≡ true → Took x at r s′ (Ends (Some (fault-line g)))
 took-end x at r s′ g c e =
-    let w = from-fault (fault-place (x .card) at r) (c .0) g (c .2) in
-    (
+    let w = from-fault (fault-place (x .card) at r) (c .0) g (c .2) in (
       w .0,
       subst (Takes (x .plan) (x .card) (x .open-now) r s′) (w .1) (c .1),
       ap (ends r) (sym (w .2)) ∙ e,

@@ -19,7 +19,12 @@ pub record Pending : Type 0 where
 
 abbrev pub pending-of : OpenCard → Pending
 pending-of c = record {
-  at = c .at; number = c .number; angle = c .angle; share = c .share; modes = vec-items (c .modes); bands = vec-items (c .bands);
+  at = c .at;
+  number = c .number;
+  angle = c .angle;
+  share = c .share;
+  modes = vec-items (c .modes);
+  bands = vec-items (c .bands);
 }
 
 -- before any card
@@ -29,7 +34,9 @@ no-card = record { at = 0; number = 0; angle = 0; share = 0; modes = []; bands =
 -- the card that they say
 abbrev pub crank-said : Pending → Crank
 crank-said p = record {
-  number = p .number; share = p .share; parts = record { angle = p .angle; modes = p .modes; bands = p .bands };
+  number = p .number;
+  share = p .share;
+  parts = record { angle = p .angle; modes = p .modes; bands = p .bands };
 }
 
 abbrev pub with-mode : Pending → Mode → Pending

@@ -97,7 +97,13 @@ fn band(plan: &mut Draft, card: &OpenCard, state: Open) -> Result<Option<Line>, 
 }
 
 // A judge record: no guest, and lent memory for a horizon of 600.
-fn judge(plan: &mut Draft, head: Head, horizon: u32, work: &mut [u32], totals: &mut [u64]) -> Result<Option<Line>, RecordFault>
+fn judge(
+    plan: &mut Draft,
+    head: Head,
+    horizon: u32,
+    work: &mut [u32],
+    totals: &mut [u64],
+) -> Result<Option<Line>, RecordFault>
     requires { ⌜ length (now work) ≡ 14424 ⌝ ∗ ⌜ length (now totals) ≡ 601 ⌝ }
     ensures { λ r. ⌜ Judging head (stands (now (plan .entry))) horizon (judge-refused horizon) (stands (now (plan .exit))) r ⌝ }
 {
@@ -106,7 +112,14 @@ fn judge(plan: &mut Draft, head: Head, horizon: u32, work: &mut [u32], totals: &
 
 // Carries out a record; the card that is being read has it already, and `state` is what stands
 // open after it.
-pub(crate) fn carry_out(plan: &mut Draft, card: &OpenCard, state: Open, record: Record, work: &mut [u32], totals: &mut [u64]) -> Result<Option<Line>, RecordFault>
+pub(crate) fn carry_out(
+    plan: &mut Draft,
+    card: &OpenCard,
+    state: Open,
+    record: Record,
+    work: &mut [u32],
+    totals: &mut [u64],
+) -> Result<Option<Line>, RecordFault>
     requires { ⌜ length (now work) ≡ 14424 ⌝ ∗ ⌜ length (now totals) ≡ 601 ⌝ }
     ensures { λ r. ⌜ Takes (stands (now (plan .entry))) (pending-of (now (card .entry))) state «record» (stands (now (plan .exit))) r ⌝ }
 {

@@ -32,6 +32,7 @@ use std::alloc::Global;
 const MOST_BYTES: usize = 2048;
 // What a judging to the horizon 600 asks of lent memory.
 const WORK_CELLS: usize = 14424;
+
 const TOTALS: usize = 601;
 
 // Whether a card stands open.
@@ -95,7 +96,13 @@ impl<'a> Run<'a> {
     }
 
     // Carries out the record that was read at a byte place; its fault becomes the file's.
-    fn carry(&mut self, at: usize, record: Record, work: &mut [u32], totals: &mut [u64]) -> Result<Option<Line>, FileFault>
+    fn carry(
+        &mut self,
+        at: usize,
+        record: Record,
+        work: &mut [u32],
+        totals: &mut [u64],
+    ) -> Result<Option<Line>, FileFault>
         requires { ⌜ length (now work) ≡ 14424 ⌝ ∗ ⌜ length (now totals) ≡ 601 ⌝ }
         ensures carried { λ r. ⌜ Carried (state-of (now (self .entry))) at «record» (stands (now (self .exit) .plan)) r ⌝ }
         ensures card { λ _. ⌜ pending-of (now (self .exit) .card) ≡ pending-of (now (self .entry) .card) ⌝ }

@@ -22,9 +22,8 @@ loop-run-again c =
     let line = c .in-Goes .line in
     let items = vec-items (c .loop-run .lines) in
     let told : Turned bytes x x′ (Goes line) =
-      subst (λ b. Turned b x x′ (Goes line)) (inv .1) (subst (Turned (c .loop-run .run .reader .bytes .now) x x′) (c .in-Goes .is) (c .in-Continue-line .ensures tt .turned))
-    in
-    (
+    subst (λ b. Turned b x x′ (Goes line)) (inv .1) (subst (Turned (c .loop-run .run .reader .bytes .now) x x′) (c .in-Goes .is) (c .in-Continue-line .ensures tt .turned))
+    in (
       λ rest on.
           subst (Prints bytes new-plan no-card opens.Start 0)
           (sym (ap (λ l. l ++ rest) (c .in-Continue-print .ensures tt) ∙ append-assoc items (listOf line) rest))

@@ -23,19 +23,19 @@ returns-in-Continue-note c =
     let here = sym (told .what) ∙ ap (λ o. Ok o) (c .in-Some .is) in
     let card = c .in-Continue-note .ensures tt ∙ ap (λ at. noted (x .card) at r) (c .at-at .ensures) in
     let before : state-of (record { reader = c .next .last .self; plan = run .plan; card = c .note .last .self }) ≡ read bytes x r s′ here =
-      λ i. record { plan = x .plan; card = card i; open-now = state i; at = place i }
+    λ i. record { plan = x .plan; card = card i; open-now = state i; at = place i }
     in
     let now-at : state-of (c .taken .last .self) ≡ after bytes x r s′ here =
-      λ i. record {
-        plan = s′;
-        card = (c .taken .ensures .card ∙ card) i;
-        open-now = (ap (λ rd. rd .state) (c .taken .ensures .reader) ∙ state) i;
-        at = (ap (λ rd. rd .at) (c .taken .ensures .reader) ∙ place) i;
-      }
+    λ i. record {
+      plan = s′;
+      card = (c .taken .ensures .card ∙ card) i;
+      open-now = (ap (λ rd. rd .state) (c .taken .ensures .reader) ∙ state) i;
+      at = (ap (λ rd. rd .at) (c .taken .ensures .reader) ∙ place) i;
+    }
     in
     let took : Took (read bytes x r s′ here) (x .at) r s′ (c .taken .result) =
-      subst (λ at. Took (read bytes x r s′ here) at r s′ (c .taken .result)) (c .at-at .ensures)
-      (subst (λ w. Took w (c .at-at .result) r s′ (c .taken .result)) before (c .taken .ensures .turn))
+    subst (λ at. Took (read bytes x r s′ here) at r s′ (c .taken .result)) (c .at-at .ensures)
+    (subst (λ w. Took w (c .at-at .result) r s′ (c .taken .result)) before (c .taken .ensures .turn))
     in
     record {
       turned = subst (λ w. Turned bytes x w (c .taken .result)) (sym now-at) (turned bytes x r s′ here (c .taken .result) took);
