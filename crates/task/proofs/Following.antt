@@ -6,10 +6,11 @@ use mathlib.Core.Bool.{cond}
 use Prim.Native.Nat.{ℕ, _+_, _-_, _*_, _/_, _≤_, _<_}
 use native.Mathlib.Nat.{mul-add, mul-comm, mul-le-mul-left, mul-le-mul-right, le-div-iff-mul-le}
 use native.Mathlib.Omega.{arith}
+use lib.Dec.{lit≤}
 use Rattle.std.proofs.shelf.Tests.{cond-true, cases-lt}
 use Rattle.task.specs.Graph.{Graph, Place, is-place}
-use Rattle.task.specs.Kinds.{raised, entry-graph, reduced, share-graph}
-use Rattle.task.specs.Jobs.{Job, Suits, Steps, Follows-from, Follows, Entered-job, Entered, Shared-job, Shared-due}
+use Rattle.task.specs.Kinds.{raised, entry-graph, reduced, share-graph, timed-graph}
+use Rattle.task.specs.Jobs.{Job, Suits, Steps, Follows-from, Follows, Entered-job, Entered, Shared-job, Shared-due, Timed-job, Timing}
 use Rattle.task.proofs.Lawful.{place-true}
 
 at-place : (g : Graph) (p x : ℕ) (P : ℕ → Type 0) → Place g p → P x → P (cond (is-place g p) x 0)
@@ -73,7 +74,7 @@ shared-suits g k s p j i o w r = record {
       (let a : g .deadline p * k ≤ j .due - j .release = rw mul-comm (omega (arith, w .allows)) in
       let b : g .deadline p ≤ (j .due - j .release) / k = le-div-iff-mul-le o .1 a in
       let c = mul-le-mul-left k (reduced-mono s (g .deadline p) ((j .due - j .release) / k) b) in
-      omega (arith, r .later, r .release));
+      omega (arith, r .due, r .release));
 }
 
 shared-follow-from : (g : Graph) (k s p : ℕ) (j i : Job) (js is : List Job) → 1 ≤ k → Follows-from g k p j js → Shared-job k s j i → Shared-due k s js is
@@ -97,3 +98,19 @@ shared-follow g k s [] [] o f r = tt
 shared-follow g k s [] (i ∷ is) o f r = absurd r
 shared-follow g k s (j ∷ js) [] o f r = absurd r
 shared-follow g k s (j ∷ js) (i ∷ is) o f r = (f .0, shared-follow-from g k s (f .0) j i js is o (f .1) (r .0) (r .1))
+
+-- A lawful timing follows the timed task's graph.
+timed-suits : (k p d c : ℕ) (j : Job) → Timed-job k d c j → Suits (timed-graph p d c) k 1 j
+timed-suits k p d c j t = record { place = (lit≤ tt, lit≤ tt); asks = t .asks; allows = omega (arith, t .due) }
+
+timing-from : (k p d c : ℕ) (j : Job) (js : List Job) → Timing k p d c (j ∷ js) → Follows-from (timed-graph p d c) k 1 j js
+timing-from k p d c j [] t = timed-suits k p d c j t
+timing-from k p d c j (i ∷ js) t =
+    (timed-suits k p d c j (t .0), (1, record { ticks = p; gap = refl; waits = t .1 }, timing-from k p d c i js (t .2)))
+
+pub timing-follows : (k p d c : ℕ) (js : List Job) → Timing k p d c js → Follows (timed-graph p d c) k js
+timing-follows k p d c [] t = tt
+timing-follows k p d c (j ∷ js) t = (1, timing-from k p d c j js t)
+
+pub none-follow : (g : Graph) (k : ℕ) (js : List Job) → js ≡ [] → Follows g k js
+none-follow g k js e = subst (Follows g k) (sym e) tt

@@ -88,11 +88,30 @@ pub record Entered-job (k e : ℕ) (j i : Job) : Type 0 where
 abbrev pub Entered : ℕ → ℕ → List Job → List Job → Type 0
 Entered k e = Pairs (Entered-job k e)
 
--- a job whose time to be done, cut to whole ticks, is reduced as a deadline is, or by less
+-- a job whose time to its due, cut to whole ticks, is reduced as a deadline is
 pub record Shared-job (k s : ℕ) (j i : Job) : Type 0 where
   pub release : i .release ≡ j .release
   pub cost : i .cost ≡ j .cost
-  pub later : j .release + k * reduced s ((j .due - j .release) / k) ≤ i .due
+  pub due : i .due ≡ j .release + k * reduced s ((j .due - j .release) / k)
 
 abbrev pub Shared-due : ℕ → ℕ → List Job → List Job → Type 0
 Shared-due k s = Pairs (Shared-job k s)
+
+-- a job of a timed task: it asks at most the cost, and is due its deadline after its release
+pub record Timed-job (k deadline cost : ℕ) (j : Job) : Type 0 where
+  pub asks : j .cost ≤ k * cost
+  pub due : j .due ≡ j .release + k * deadline
+
+-- a lawful timing: jobs released at least a period apart
+abbrev pub Timing : ℕ → ℕ → ℕ → ℕ → List Job → Type 0
+Timing k period deadline cost [] = Unit {0}
+Timing k period deadline cost (j ∷ []) = Timed-job k deadline cost j
+Timing k period deadline cost (j ∷ i ∷ js) =
+    Timed-job k deadline cost j × (j .release + k * period ≤ i .release) × Timing k period deadline cost (i ∷ js)
+
+-- the job lists of the layers over a task that may release the lists L
+abbrev pub Entry-lists : ℕ → (ℕ → List Job → Type 0) → ℕ → List Job → Type 0
+Entry-lists e L k js = (below : List Job) × L k below × Entered k e below js
+
+abbrev pub Share-lists : ℕ → (ℕ → List Job → Type 0) → ℕ → List Job → Type 0
+Share-lists s L k js = (below : List Job) × L k below × Shared-due k s below js

@@ -5,6 +5,8 @@ ghost use mathlib.Core.Bool.{_&&_};
 ghost use lib.Dec.{leb};
 ghost use Rattle.std.specs.Results.{Cases, isOk};
 ghost use Rattle.refusal.specs.declared.Refusal.the-variants.{ValueLimits};
+ghost use mathlib.Core.List.{[]};
+ghost use Rattle.task.specs.Jobs.{Timing};
 ghost use Rattle.task.specs.Kinds.{empty-graph, timed-graph};
 use crate::interface::Task;
 use refusal::Refusal;
@@ -15,6 +17,8 @@ pub struct Empty;
 
 pub impl Task for Empty as EmptyTask {
     ghost graph = { λ _. empty-graph };
+
+    ghost lists = { λ _ k js. js ≡ [] };
 
     fn places(&self) -> usize {
         0
@@ -90,6 +94,8 @@ impl Timed {
 
 pub impl Task for Timed as TimedTask {
     ghost graph = { λ c. timed-graph (c .period) (c .deadline) (c .cost) };
+
+    ghost lists = { λ c k js. Timing k (c .period) (c .deadline) (c .cost) js };
 
     fn places(&self) -> usize {
         1

@@ -1,4 +1,5 @@
 // Layers over any kind of task, which are kinds again.
+ghost use Rattle.task.specs.Jobs.{Entry-lists, Share-lists};
 ghost use Rattle.task.specs.Kinds.{entry-graph, share-graph};
 use crate::checked::EntryCost;
 use crate::checked::Share;
@@ -13,6 +14,8 @@ pub struct Entry<T> {
 
 pub impl<T: Task> Task for Entry<T> as EntryTask {
     ghost graph = { λ x. entry-graph (x .entry .ticks) (T·Task .graph (x .below)) };
+
+    ghost lists = { λ x. Entry-lists (x .entry .ticks) (T·Task .lists (x .below)) };
 
     fn places(&self) -> usize {
         self.below.places()
@@ -44,6 +47,8 @@ pub struct Shared<T> {
 
 pub impl<T: Task> Task for Shared<T> as SharedTask {
     ghost graph = { λ x. share-graph (x .share .thousandths) (T·Task .graph (x .below)) };
+
+    ghost lists = { λ x. Share-lists (x .share .thousandths) (T·Task .lists (x .below)) };
 
     fn places(&self) -> usize {
         self.below.places()
