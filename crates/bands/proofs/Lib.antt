@@ -11,3 +11,4 @@ pub mod TurnsArith
 pub mod TurnsSpeeds
 pub mod Turns
 pub mod TurnsExamples
+pub mod Drives

@@ -3,3 +3,4 @@ pub mod Graphs
 pub mod Rules
 pub mod Turns
 pub mod Examples
+pub mod Drives

@@ -6,6 +6,7 @@ ghost use lib.ListN.{length};
 ghost use Rattle.task.specs.Graph.{Place};
 ghost use Rattle.engine.specs.Limits.{angle-ok, bands-ok};
 ghost use Rattle.engine.specs.Views.{numbers-of, parts-of, modes-ok, modes-of, bands-of};
+ghost use Rattle.bands.specs.Drives.{Bands-lists};
 ghost use Rattle.bands.specs.Gaps.{Gap-by-rules};
 ghost use Rattle.bands.specs.Rules.{pair-of, Band-of};
 ghost use Rattle.bands.specs.Graphs.{lower-end, upper-end, pair-at, band-here, band-gap, mode-end, share-speed, cost-between, band-cost, Greatest-cost, lesser as lesser-gap, band-deadline, Least-gap, bands-graph};
@@ -196,6 +197,8 @@ fn greatest_cost(top: u32, low: u32, high: u32, modes: &[Mode]) -> u32
 
 pub impl Task for Bands as BandsTask {
     ghost graph = { λ b. bands-graph (numbers-of (b .engine)) (parts-of (b .card)) };
+
+    ghost lists = { λ b. Bands-lists (numbers-of (b .engine)) (parts-of (b .card)) };
 
     fn places(&self) -> usize {
         self.count()
