@@ -4,7 +4,7 @@ use mathlib.Core.Path.{_≡_, refl, sym, ap, subst, _∙_}
 use mathlib.Core.List.{List, [], _∷_}
 use mathlib.Core.Logic.{_⊎_, inl, inr, ⊎-elim}
 use Prim.Native.Nat.{ℕ, _+_, _-_, _*_, _/_, _≤_, _<_, max}
-use native.Mathlib.Nat.{mul-le-mul-left, le-of-mul-le-mul-left, mul-add, add-comm, mul-comm, mul-div-cancel-left}
+use native.Mathlib.Nat.{mul-le-mul-left, le-of-mul-le-mul-left, mul-add, add-sub-cancel-left, mul-div-cancel-left}
 use native.Mathlib.Omega.{arith}
 use lib.ListN.{length, getD, drop}
 use Rattle.std.proofs.shelf.Lists.{drop-all, getD-past}
@@ -89,3 +89,45 @@ module _ (e : Numbers) (c : Parts) (ready : Ready e c) (k : ℕ) (o : 1 ≤ k) w
   -- Every job list of the card's drives follows the graph of its bands.
   pub drives-follow : (js : List Job) → Bands-lists e c k js → Follows (bands-graph e c) k js
   drives-follow js l = drive-follows (l .0) (l .1) (l .2 .0) js (l .2 .1)
+
+-- the time to a due of whole ticks, cut to whole ticks
+whole-ticks : (k d time : ℕ) → 1 ≤ k → (time + k * d - time) / k ≡ d
+whole-ticks k d time o = ap (λ n. n / k) (add-sub-cancel-left time (k * d)) ∙ mul-div-cancel-left d o
+
+-- A drive as it is judged is a job list of the share over the entry cost over the bands.
+module _ (e : Numbers) (share : ℕ) (c : Parts) (k : ℕ) (o : 1 ≤ k) where
+  -- the jobs of the bare bands, and those with the entry cost, on the same drive
+  abbrev Beneath : ℕ → ℕ → List (List ℕ) → List Job → Type 0
+  Beneath time v turns js =
+      (bare : List Job) × ((entered : List Job) × Drive e (c .angle) k (Releases e c k) time v turns bare × Entered k (e .entry) bare entered × Shared-due k share entered js)
+
+  beneath : (time v : ℕ) (turns : List (List ℕ)) (js : List Job) → Drive e (c .angle) k (Releases-judged e share c k) time v turns js → Beneath time v turns js
+  beneath time v [] [] d = ([], ([], tt, tt, tt))
+  beneath time v [] (j ∷ js) d = absurd d
+  beneath time v (vs ∷ turns) [] d = absurd d
+  beneath time v (vs ∷ turns) (j ∷ js) d =
+      let r = d .1 in
+      let rest = beneath (time + length vs) (end-speed v vs) turns js (d .2) in
+      let cost = mode-at (c .modes) (r .mode) .cost in
+      let due = time + k * band-deadline e c (r .band) in
+      let bare : Job = record { release = time; cost = k * cost; due = due } in
+      let entered : Job = record { release = time; cost = j .cost; due = due } in
+      let mine : Releases e c k time v bare =
+        record { release = refl; mode = r .mode; in-mode = r .in-mode; asks = omega arith; band = r .band; is-band = r .is-band; in-band = r .in-band; due = refl }
+      in
+      let more : Entered-job k (e .entry) bare entered =
+        record { release = refl; due = refl; more = omega (arith, r .asks, mul-add k (e .entry) cost); most = r .most }
+      in
+      let turned : Shared-job k share entered j =
+        record {
+          release = r .release;
+          cost = refl;
+          due = r .due ∙ ap (λ n. time + k * reduced share n) (sym (whole-ticks k (band-deadline e c (r .band)) time o));
+        }
+      in
+      (bare ∷ rest .0, (entered ∷ rest .1 .0, (d .0, mine, rest .1 .1), (more, rest .1 .2), (turned, rest .1 .3)))
+
+  pub judged-lists : (js : List Job) → Drives-judged e share c k js → Share-lists share (Entry-lists (e .entry) (Bands-lists e c)) k js
+  judged-lists js l =
+      let b = beneath (l .0) (l .1) (l .2 .0) js (l .2 .1) in
+      (b .1 .0, (b .0, (l .0, l .1, (l .2 .0, b .1 .1)), b .1 .2), b .1 .3)

@@ -5,3 +5,4 @@ pub mod Rights
 pub mod Decks
 pub mod Totals
 pub mod Examples
+pub mod Runs

@@ -4,4 +4,5 @@ pub mod Calls
 pub mod Found
 pub mod Judging
 pub mod Sums
+pub mod Promise
 pub mod Examples
