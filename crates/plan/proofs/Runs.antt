@@ -28,8 +28,10 @@ use Rattle.plan.specs.declared.cards.TimedCard.{TimedCard}
 use Rattle.plan.specs.declared.deck.Deck.{Deck}
 use Rattle.plan.specs.Tables.{Crank, Clock, crank-of, clock-of, right-card}
 use Rattle.plan.specs.Standing.{Cards, cards-of}
-use Rattle.plan.specs.Judging.{crank-graph, clock-graph, tasks}
-use Rattle.plan.specs.Promise.{Timed-judged, Timing-judged, Each, Run-of, Fits-every-run, Fits-every-run-alone}
+use Rattle.plan.specs.declared.verdict.Verdict.{Verdict}
+use Rattle.plan.specs.declared.verdict.Verdict.the-variants.{Fits, Over}
+use Rattle.plan.specs.Judging.{crank-graph, clock-graph, tasks, Says}
+use Rattle.plan.specs.Promise.{Timed-judged, Timing-judged, Each, Run-of, Fits-every-run, Fits-every-run-alone, Promises}
 use Rattle.plan.proofs.Rights.{right-parts}
 use Rattle.plan.proofs.Totals.{total-append, greatest-most}
 
@@ -167,3 +169,9 @@ fits-nothing d =
         let z : t ≡ 0 = omega arith in
         let none = total-none (card-tasks (cards-of d)) (cards-lawful d) n (subst (λ s. Total (card-tasks (cards-of d)) s n) z total) in
         omega arith)
+
+-- what a verdict says, it promises
+pub promised : (d : Deck) (g : Graph) (lists : ℕ → List Job → Type 0) (horizon : ℕ) → Lawful g → ((k : ℕ) (js : List Job) → 1 ≤ k → lists k js → Follows g k js) → (v : Verdict) → Says v (tasks (cards-of d) g) horizon → Promises v (cards-of d) lists
+promised d g lists horizon law follows (Fits h) says =
+    fits-from d g lists h law follows (λ t n near total. says .1 t n (omega (arith, says .0)) total)
+promised d g lists horizon law follows (Over t n) says = tt

@@ -13,6 +13,7 @@ ghost use Rattle.demand.specs.Judged.{lent-refusal};
 ghost use Rattle.plan.specs.Tables.{Crank, Clock, cranks-in, clocks-in};
 ghost use Rattle.plan.specs.Standing.{cards-of, stands};
 ghost use Rattle.plan.specs.Judging.{crank-graph, clock-graph, tasks, Judged, mark-of};
+ghost use Rattle.plan.specs.Promise.{Promises};
 ghost use Rattle.plan.specs.Sums.{Grown, Spared, Decides};
 use crate::deck::Deck;
 use crate::deck::Draft;
@@ -129,7 +130,9 @@ impl Draft {
     }
 
     // Judges the plan with a guest: the summed demand of all tasks at every t up to the horizon,
-    // and whether one of these sums exceeds its t.
+    // and whether one of these sums exceeds its t. "Fits" holds for every run: whatever drives
+    // the engine makes, whatever lawful timings the timed cards keep, whatever jobs the guest may
+    // release, no window up to the horizon demands more than its length.
     pub fn judge<G: Task>(
         &mut self,
         guest: &G,
@@ -139,6 +142,7 @@ impl Draft {
     ) -> Result<Verdict, Refusal>
         ensures refusal { λ r. ⌜ refusal-in r ≡ lent-refusal horizon (length (now (work .entry))) (length (now (totals .entry))) ⌝ }
         ensures judged { λ r. ⌜ Cases r (λ v. Judged (tasks (cards-of (now (self .entry) .deck)) (G·Task .graph (now (guest .entry)))) horizon (now (work .entry)) (now (work .exit)) (now (totals .entry)) (now (totals .exit)) v) (λ _. (now (work .exit) ≡ now (work .entry)) × (now (totals .exit) ≡ now (totals .entry))) ⌝ }
+        ensures runs { λ r. ⌜ Cases r (λ v. Promises v (cards-of (now (self .entry) .deck)) (G·Task .lists (now (guest .entry)))) (λ _. Unit {0}) ⌝ }
         ensures marked { λ r. ⌜ Cases r (λ v. (now (self .exit) .deck ≡ now (self .entry) .deck) × (now (self .exit) .mark ≡ mark-of v)) (λ _. now (self .exit) ≡ now (self .entry)) ⌝ }
     {
         check_lent(horizon, work.len(), totals.len())?;

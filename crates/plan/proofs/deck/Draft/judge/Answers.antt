@@ -13,6 +13,7 @@ use Rattle.plan.specs.Standing.{cards-of}
 use Rattle.plan.specs.Judging.{crank-graph, clock-graph, tasks}
 use Rattle.plan.specs.Sums.{Grown}
 use Rattle.plan.proofs.Seen.{crank-count, clock-count}
+use Rattle.plan.proofs.Runs.{promised}
 use Rattle.plan.proofs.Totals.{grown-then, spared-then, summed-from, says-from}
 use Rattle.plan.proofs.deck.Draft.judge.Needs as need
 
@@ -49,6 +50,7 @@ returns g c =
     (c .add-task .ensures .sums)
     in
     let summed = summed-from (tasks (cards-of deck) guest) horizon (c .clear .last .totals) (c .add-task .last .totals) (few-tasks deck guest) (lent .most) (c .clear .ensures .cleared) grown in
+    let says = says-from (tasks (cards-of deck) guest) horizon (c .add-task .last .totals) summed (c .over-verdict .result) (c .over-verdict .ensures) in
     let cells = 24 * (horizon + 1) in
     record {
       refusal = c .in-Continue-check-lent .ensures tt;
@@ -59,7 +61,9 @@ returns g c =
             spared-then cells (c .args .work .now) (c .add-timeds .last .work) (c .add-task .last .work)
             (spared-then cells (c .args .work .now) (c .add-cranks .last .work) (c .add-timeds .last .work) (c .add-cranks .ensures .spare) (c .add-timeds .ensures .spare))
             (c .add-task .ensures .spare);
-        says = says-from (tasks (cards-of deck) guest) horizon (c .add-task .last .totals) summed (c .over-verdict .result) (c .over-verdict .ensures);
+        says = says;
       };
+      runs =
+          promised deck guest (g .G·Task .lists (c .args .guest .now)) horizon (g .G·Task·met .lawful (c .args .guest .now)) (g .G·Task·met .follows (c .args .guest .now)) (c .over-verdict .result) says;
       marked = (refl, c .mark-self .ensures);
     }
