@@ -41,13 +41,12 @@ meets e c k i p v o m b =
     let M = e .greatest in
     let low = mode-at (c .modes) i .lower in
     let w = max low (lower-end c p) in
-    let under : k * w ≤ v = max-under k low (lower-end c p) v (m .above) (b .0) in
-    (
+    let under : k * w ≤ v = max-under k low (lower-end c p) v (m .above) (b .0) in (
       w,
       in-whole M k low (mode-end M (c .modes) i) w v o (omega arith) under
-      (⊎-elim (λ x. inl x) (λ x. inr (ap (next-lower M) (drop-all (i + 1) (c .modes) (omega (arith, x .0))), x .1)) (m .below)),
+          (⊎-elim (λ x. inl x) (λ x. inr (ap (next-lower M) (drop-all (i + 1) (c .modes) (omega (arith, x .0))), x .1)) (m .below)),
       in-whole M k (lower-end c p) (upper-end e c p) w v o (omega arith) under
-      (⊎-elim (λ x. inl x) (λ x. inr (getD-past (c .bands) p M (omega (arith, x .0)), x .1)) (b .1)),
+          (⊎-elim (λ x. inl x) (λ x. inr (getD-past (c .bands) p M (omega (arith, x .0)), x .1)) (b .1)),
     )
   where
     max-under : (k a b v : ℕ) → k * a ≤ v → k * b ≤ v → k * max a b ≤ v
@@ -70,8 +69,7 @@ module _ (e : Numbers) (c : Parts) (ready : Ready e c) (k : ℕ) (o : 1 ≤ k) w
   drive-from time v vs (ws ∷ turns) j [] t r d = absurd d
   drive-from time v vs (ws ∷ turns) j (i ∷ js) t r d =
       let next = d .1 in
-      let gap = no-turn-beats-its-gap e c ready k (r .band) (next .band) o (r .is-band) (next .is-band) v vs t (r .in-band) (next .in-band) in
-      (
+      let gap = no-turn-beats-its-gap e c ready k (r .band) (next .band) o (r .is-band) (next .is-band) v vs t (r .in-band) (next .in-band) in (
         suits time v j r,
         (
           next .band,
@@ -113,17 +111,17 @@ module _ (e : Numbers) (share : ℕ) (c : Parts) (k : ℕ) (o : 1 ≤ k) where
       let bare : Job = record { release = time; cost = k * cost; due = due } in
       let entered : Job = record { release = time; cost = j .cost; due = due } in
       let mine : Releases e c k time v bare =
-        record { release = refl; mode = r .mode; in-mode = r .in-mode; asks = omega arith; band = r .band; is-band = r .is-band; in-band = r .in-band; due = refl }
+      record { release = refl; mode = r .mode; in-mode = r .in-mode; asks = omega arith; band = r .band; is-band = r .is-band; in-band = r .in-band; due = refl }
       in
       let more : Entered-job k (e .entry) bare entered =
-        record { release = refl; due = refl; more = omega (arith, r .asks, mul-add k (e .entry) cost); most = r .most }
+      record { release = refl; due = refl; more = omega (arith, r .asks, mul-add k (e .entry) cost); most = r .most }
       in
       let turned : Shared-job k share entered j =
-        record {
-          release = r .release;
-          cost = refl;
-          due = r .due ∙ ap (λ n. time + k * reduced share n) (sym (whole-ticks k (band-deadline e c (r .band)) time o));
-        }
+      record {
+        release = r .release;
+        cost = refl;
+        due = r .due ∙ ap (λ n. time + k * reduced share n) (sym (whole-ticks k (band-deadline e c (r .band)) time o));
+      }
       in
       (bare ∷ rest .0, (entered ∷ rest .1 .0, (d .0, mine, rest .1 .1), (more, rest .1 .2), (turned, rest .1 .3)))
 

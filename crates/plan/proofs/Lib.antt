@@ -6,3 +6,4 @@ pub mod Decks
 pub mod Totals
 pub mod Examples
 pub mod Runs
+pub mod Kept

@@ -40,8 +40,16 @@ pub ready-card : (e : Engine) (c : Crank) → right-card (numbers-of e) c ≡ tr
 ready-card e c h =
     let r = right-parts (numbers-of e) c h in
     record {
-      angle = r .0; modes = r .1; bands = r .2;
-      turns = e .turns; varies = e .varies; bounded = e .bounded; rises = e .rises; sharpest = e .sharpest; falls = e .falls; hardest = e .hardest;
+      angle = r .0;
+      modes = r .1;
+      bands = r .2;
+      turns = e .turns;
+      varies = e .varies;
+      bounded = e .bounded;
+      rises = e .rises;
+      sharpest = e .sharpest;
+      falls = e .falls;
+      hardest = e .hardest;
     }
 
 crank-follows : (e : Engine) (c : Crank) (k : ℕ) → 1 ≤ k → right-card (numbers-of e) c ≡ true → (js : List Job) → Drives-judged (numbers-of e) (c .share) (c .parts) k js → Follows (crank-graph (numbers-of e) c) k js
@@ -103,8 +111,7 @@ cranks-lawful : (e : Engine) (xs : List CrankCard) → every (right-card (number
 cranks-lawful e [] h = tt
 cranks-lawful e (x ∷ xs) h =
     let n = numbers-of e in
-    let parts = and-parts (right-card n (crank-of x)) (every (right-card n) (map crank-of xs)) h in
-    (
+    let parts = and-parts (right-card n (crank-of x)) (every (right-card n) (map crank-of xs)) h in (
       share-lawful (x .share .thousandths) _ (x .share .most) (entry-lawful (n .entry) _ (bands-lawful n (parts-of (x .card)) (ready-card e (crank-of x) (parts .0)))),
       cranks-lawful e xs (parts .1),
     )
@@ -112,8 +119,7 @@ cranks-lawful e (x ∷ xs) h =
 clocks-lawful : (e : Numbers) (xs : List TimedCard) → All-lawful (map (clock-graph e) (map clock-of xs))
 clocks-lawful e [] = tt
 clocks-lawful e (x ∷ xs) =
-    let t = x .timed in
-    (
+    let t = x .timed in (
       entry-lawful (e .entry) _ (timed-lawful (t .period) (t .deadline) (t .cost) (t .«period_most») (t .«deadline_least») (t .«deadline_most») (t .«cost_least») (t .«cost_most»)),
       clocks-lawful e xs,
     )
@@ -166,9 +172,9 @@ total-none (g ∷ gs) l n t =
 pub fits-nothing : (d : Deck) → Fits-every-run-alone (cards-of d) 0
 fits-nothing d =
     fits-alone-from d 0 (λ t n h total.
-        let z : t ≡ 0 = omega arith in
-        let none = total-none (card-tasks (cards-of d)) (cards-lawful d) n (subst (λ s. Total (card-tasks (cards-of d)) s n) z total) in
-        omega arith)
+    let z : t ≡ 0 = omega arith in
+    let none = total-none (card-tasks (cards-of d)) (cards-lawful d) n (subst (λ s. Total (card-tasks (cards-of d)) s n) z total) in
+    omega arith)
 
 -- what a verdict says, it promises
 pub promised : (d : Deck) (g : Graph) (lists : ℕ → List Job → Type 0) (horizon : ℕ) → Lawful g → ((k : ℕ) (js : List Job) → 1 ≤ k → lists k js → Follows g k js) → (v : Verdict) → Says v (tasks (cards-of d) g) horizon → Promises v (cards-of d) lists

@@ -5,4 +5,5 @@ pub mod Found
 pub mod Judging
 pub mod Sums
 pub mod Promise
+pub mod Stands
 pub mod Examples

@@ -3,7 +3,6 @@ use mathlib.Core.List.{List}
 use Prim.Native.Nat.{ℕ}
 use Rattle.engine.specs.Views.{Numbers, numbers-of}
 use Rattle.plan.specs.declared.deck.Deck.{Deck}
-use Rattle.plan.specs.declared.deck.Draft.{Draft}
 use Rattle.plan.specs.Tables.{Crank, Clock, cranks-in, clocks-in}
 
 -- an engine with its cards, each sort in rising order of the numbers
@@ -19,6 +18,3 @@ pub record Standing : Type 0 where
 
 abbrev pub cards-of : Deck → Cards
 cards-of d = record { engine = numbers-of (d .engine); cranks = cranks-in (d .cranks); clocks = clocks-in (d .timeds) }
-
-abbrev pub stands : Draft → Standing
-stands d = record { cards = cards-of (d .deck); mark = d .mark }

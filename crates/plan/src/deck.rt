@@ -24,10 +24,3 @@ pub enum Place {
     Timed(usize),
     Nowhere,
 }
-
-// A plan that is being made. The mark is the horizon to which it was judged to fit, 0 where it was not.
-#[derive(Drop)]
-pub struct Draft {
-    pub(crate) deck: Deck,
-    pub(crate) mark: u32,
-}

@@ -3,12 +3,13 @@ ghost use Prim.Native.Nat.{_<_};
 ghost use mathlib.Core.Path.{_≡_};
 ghost use Rattle.std.specs.Results.{Cases};
 ghost use Rattle.refusal.specs.Numbers.{refusal-in};
-ghost use Rattle.plan.specs.Standing.{stands, cards-of};
+ghost use Rattle.plan.specs.Standing.{cards-of};
+ghost use Rattle.plan.specs.Stands.{stands};
 ghost use Rattle.plan.specs.Calls.{new-plan, changed, engine-refused, with-engine, crank-refused, with-crank, clock-refused, with-clock, recost-refused, with-recost, cut-refused, with-cut, drop-refused, with-drop};
 use crate::cards::CrankCard;
 use crate::cards::TimedCard;
 use crate::deck::Deck;
-use crate::deck::Draft;
+use crate::drafted::Draft;
 use crate::tables::CrankTable;
 use crate::tables::TimedTable;
 use engine::card::Card;
@@ -30,25 +31,34 @@ const NO_TIMED: TimedCard = TimedCard {
     timed: Timed::LEAST,
 };
 
+// The house engine and no card.
+fn empty_deck() -> Deck
+    ensures { λ d. ⌜ cards-of d ≡ new-plan .cards ⌝ }
+{
+    let cranks = CrankTable {
+        table: [NO_CRANK; 4],
+        used: 0,
+    };
+    let timeds = TimedTable {
+        table: [NO_TIMED; 16],
+        used: 0,
+    };
+    Deck {
+        engine: Engine::house(),
+        cranks,
+        timeds,
+    }
+}
+
 impl Draft {
     // A new plan: the house engine and no card.
     pub fn new() -> Draft
         ensures { λ d. ⌜ stands d ≡ new-plan ⌝ }
     {
-        let cranks = CrankTable {
-            table: [NO_CRANK; 4],
-            used: 0,
-        };
-        let timeds = TimedTable {
-            table: [NO_TIMED; 16],
-            used: 0,
-        };
-        let deck = Deck {
-            engine: Engine::house(),
-            cranks,
-            timeds,
-        };
-        Draft { deck, mark: 0 }
+        Draft {
+            deck: empty_deck(),
+            mark: 0,
+        }
     }
 
     // Replaces the engine of a plan without cards.

@@ -2,6 +2,7 @@
 pub mod cards;
 pub mod deck;
 pub mod draft;
+pub mod drafted;
 pub mod held;
 pub mod judging;
 pub mod places;

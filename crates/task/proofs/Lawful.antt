@@ -84,23 +84,27 @@ timed-lawful period deadline cost a b c d e = record {
   where
     one : (p : ℕ) → (1 ≤ p) × (p ≤ 1) → eqb p 1 ≡ true
     one p h = eq-eqb p 1 (omega arith)
+
     at-one : (p : ℕ) → (1 ≤ p) × (p ≤ 1) → (x : ℕ) (P : ℕ → Type 0) → P x → P (cond (eqb p 1) x 0)
     at-one p h x P v = subst P (sym (cond-true (eqb p 1) x 0 (one p h))) v
+
     not-one : (p : ℕ) → ((1 ≤ p) × (p ≤ 1) → ⊥) → (x : ℕ) → cond (eqb p 1) x 0 ≡ 0
     not-one p h x = cond-both (eqb p 1) x 0 (λ n. n ≡ 0) (λ t. absurd (let s = eqb-true p 1 t in h (omega arith, omega arith))) (λ _. refl)
+
     only : (p q : ℕ) → (1 ≤ p) × (p ≤ 1) → (1 ≤ q) × (q ≤ 1) → (n : ℕ) → cond (eqb p 1 && eqb q 1) (Some period) None ≡ Some n → n ≡ period
     only p q h k n s =
         let yes : cond (eqb p 1 && eqb q 1) (Some period) None ≡ Some period = cond-true _ _ _ (and-from _ _ (one p h) (one q k)) in
         let both : Some n ≡ Some period = sym s ∙ yes in
         cc
+
     apart : (p q : ℕ) → (((1 ≤ p) × (p ≤ 1)) × ((1 ≤ q) × (q ≤ 1)) → ⊥) → cond (eqb p 1 && eqb q 1) (Some period) None ≡ None
     apart p q h =
         cond-both (eqb p 1 && eqb q 1) (Some period) None (λ x. x ≡ None)
         (λ t.
-            let parts = and-parts (eqb p 1) (eqb q 1) t in
-            let s = eqb-true p 1 (parts .0) in
-            let r = eqb-true q 1 (parts .1) in
-            absurd (h ((omega arith, omega arith), (omega arith, omega arith))))
+        let parts = and-parts (eqb p 1) (eqb q 1) t in
+        let s = eqb-true p 1 (parts .0) in
+        let r = eqb-true q 1 (parts .1) in
+        absurd (h ((omega arith, omega arith), (omega arith, omega arith))))
         (λ _. refl)
 
 -- the task that releases nothing is lawful

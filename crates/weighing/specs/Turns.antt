@@ -13,7 +13,8 @@ use Rattle.std.specs.declared.option.Option.the-variants.{Some, None}
 use Rattle.std.specs.declared.result.Result.{Result}
 use Rattle.std.specs.declared.result.Result.the-variants.{Ok, Err}
 use Rattle.plan.specs.declared.verdict.Verdict.{Verdict}
-use Rattle.plan.specs.Standing.{Standing, stands}
+use Rattle.plan.specs.Standing.{Standing}
+use Rattle.plan.specs.Stands.{stands}
 use Rattle.planfile.specs.declared.record.Open.{Open}
 use Rattle.planfile.specs.declared.record.Record.{Record}
 use Rattle.planfile.specs.declared.faults.Head.{Head}

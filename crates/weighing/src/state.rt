@@ -1,7 +1,7 @@
 // Where the run of a file stands.
 use crate::line::Line;
 use crate::open_card::OpenCard;
-use plan::deck::Draft;
+use plan::drafted::Draft;
 use planfile::reader::Reader;
 
 // The reader, the plan as it stands, and the engine card that is being read.

@@ -1,7 +1,7 @@
 use mathlib.Core.Path.{_≡_, refl, sym, ap, subst, _∙_}
 use mathlib.Core.List.{[], _∷_}
 use Rattle.std.specs.Vec.{listOf}
-use Rattle.plan.specs.Standing.{stands}
+use Rattle.plan.specs.Stands.{stands}
 use Rattle.std.specs.declared.result.Result.the-variants.{Ok}
 use Rattle.planfile.specs.Places.{at-after, state-after}
 use Rattle.weighing.specs.Pending.{noted}
