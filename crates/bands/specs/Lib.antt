@@ -4,3 +4,4 @@ pub mod Rules
 pub mod Turns
 pub mod Examples
 pub mod Drives
+pub mod Real
