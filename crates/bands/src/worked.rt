@@ -11,9 +11,10 @@ pub fn worked_gaps() -> bool
     true
 }
 
-// There are drives: the definitions that "fits" speaks of are met by real ones.
-pub fn real_drives() -> bool
-    ensures { λ r. ⌜ (r ≡ true) × Real-drives ⌝ }
+// There are drives: the definitions that "fits" speaks of are met by real ones. Says how many are
+// shown.
+pub fn real_drives() -> usize
+    ensures { λ r. ⌜ (r ≡ 9) × Real-drives ⌝ }
 {
-    true
+    9
 }

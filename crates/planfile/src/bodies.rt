@@ -8,7 +8,7 @@ use crate::record::Record;
 
 impl Kind {
     // The kind that a byte stands for.
-    pub fn of(byte: u8) -> Option<Kind>
+    pub(crate) fn of(byte: u8) -> Option<Kind>
         ensures { λ r. ⌜ r ≡ kind-of byte ⌝ }
     {
         match byte {
@@ -26,7 +26,7 @@ impl Kind {
     }
 
     // How many bytes follow the kind byte.
-    pub fn body_length(self) -> usize
+    pub(crate) fn body_length(self) -> usize
         ensures { λ r. ⌜ r ≡ body-length self ⌝ }
     {
         match self {
@@ -42,7 +42,7 @@ impl Kind {
     }
 
     // The record of this kind at the front of the bytes, or nothing where they are cut short.
-    pub fn decode(self, bytes: &[u8]) -> Option<Record>
+    pub(crate) fn decode(self, bytes: &[u8]) -> Option<Record>
         ensures { λ r. ⌜ r ≡ read-body self (now (bytes .entry)) ⌝ }
     {
         match self {

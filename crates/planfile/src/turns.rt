@@ -7,7 +7,7 @@ use crate::record::Record;
 
 impl Open {
     // Whether a record of this kind may come now.
-    pub fn in_turn(self, kind: Kind) -> bool
+    pub(crate) fn in_turn(self, kind: Kind) -> bool
         ensures { λ r. ⌜ r ≡ in-turn self kind ⌝ }
     {
         match (self, kind) {
@@ -22,7 +22,7 @@ impl Open {
     }
 
     // What stands open after a record that came in turn.
-    pub fn after(self, record: Record) -> Open
+    pub(crate) fn after(self, record: Record) -> Open
         ensures { λ r. ⌜ r ≡ open-after self «record» ⌝ }
     {
         match (self, record) {

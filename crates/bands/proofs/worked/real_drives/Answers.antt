@@ -30,8 +30,14 @@ returns c = (
   search needs,
   record {
     steady = (7, 10000, (replicate 600 10000 ∷ replicate 600 10000 ∷ [], (house-turn, released 7, (house-turn, released 607, tt))));
-    exact-gap = exact-gap; exact-turn = exact-turn;
-    beaten-1-1 = beaten-1-1; beaten-1-2 = beaten-1-2; beaten-2-1 = beaten-2-1; beaten-2-2 = beaten-2-2;
-    beaten-2-3 = beaten-2-3; beaten-3-2 = beaten-3-2; beaten-3-3 = beaten-3-3;
+    exact-gap = exact-gap;
+    exact-turn = exact-turn;
+    beaten-1-1 = beaten-1-1;
+    beaten-1-2 = beaten-1-2;
+    beaten-2-1 = beaten-2-1;
+    beaten-2-2 = beaten-2-2;
+    beaten-2-3 = beaten-2-3;
+    beaten-3-2 = beaten-3-2;
+    beaten-3-3 = beaten-3-3;
   },
 )
