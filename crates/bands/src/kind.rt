@@ -5,6 +5,9 @@ ghost use Prim.Native.Nat.{_<_};
 ghost use lib.ListN.{length};
 ghost use Rattle.task.specs.Graph.{Place};
 ghost use Rattle.engine.specs.Limits.{angle-ok, bands-ok};
+ghost use Rattle.std.specs.Results.{Cases};
+ghost use Rattle.refusal.specs.Numbers.{refusal-in};
+ghost use Rattle.engine.specs.Changes.{card-refusal};
 ghost use Rattle.engine.specs.Views.{numbers-of, parts-of, modes-ok, modes-of, bands-of};
 ghost use Rattle.bands.specs.Drives.{Bands-lists};
 ghost use Rattle.bands.specs.Gaps.{Gap-by-rules};
@@ -16,6 +19,7 @@ use crate::gaps::gap;
 use engine::card::Card;
 use engine::card::Mode;
 use engine::engine::Engine;
+use refusal::Refusal;
 use task::interface::Task;
 
 // A card that is right for its engine.
@@ -29,6 +33,15 @@ pub struct Bands {
 }
 
 impl Bands {
+    // An engine card's bands from its parts, or the first refusal where one is wrong for the engine.
+    pub fn new(engine: Engine, angle: u32, modes: &[Mode], bands: &[u32]) -> Result<Bands, Refusal>
+        ensures refusal { λ r. ⌜ refusal-in r ≡ card-refusal (numbers-of engine) (record { angle = angle; modes = now (modes .entry); bands = now (bands .entry) }) ⌝ }
+        ensures made { λ r. ⌜ Cases r (λ b. (numbers-of (b .engine) ≡ numbers-of engine) × (parts-of (b .card) ≡ record { angle = angle; modes = now (modes .entry); bands = now (bands .entry) })) (λ _. Unit {0}) ⌝ }
+    {
+        let card = Card::new(&engine, angle, modes, bands)?;
+        Ok(Bands { engine, card })
+    }
+
     // The lower speeds of the bands.
     fn lows(&self) -> &[u32]
         ensures { λ r. ⌜ now r ≡ bands-of (now (self .entry) .card) ⌝ }
