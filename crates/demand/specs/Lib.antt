@@ -1,3 +1,4 @@
 pub mod Judged
 pub mod Copied
 pub mod Table
+pub mod Told

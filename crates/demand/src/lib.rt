@@ -9,11 +9,15 @@ mod copy;
 mod local;
 mod table;
 mod totals;
+mod walk;
 
 use crate::local::Local;
 use crate::local::ROW;
 pub use crate::totals::clear;
 pub use crate::totals::first_over;
+pub use crate::walk::Told;
+pub use crate::walk::ToldJob;
+pub use crate::walk::greatest_walk;
 use refusal::Refusal;
 use task::interface::Task;
 
