@@ -64,7 +64,7 @@ impl ModeList {
 }
 
 impl BandList {
-    pub fn len(&self) -> usize
+    pub(crate) fn len(&self) -> usize
         ensures { λ r. ⌜ r ≡ length (take (now (self .entry) .used) (now (self .entry) .table)) ⌝ }
     {
         self.used
