@@ -41,7 +41,7 @@ BIG = 0xFFFFFFFF
 C7 = card(7, 1000, 1000, [(100, 3), (300, 1)], [100, 200])
 c1 = lambda n, G=1000, share=1000, c=1: card(n, G, share, [(100, c)], [100])
 
-# ---- the paper's own
+# ---- the sample and other worked plans
 put('sample', SAMPLE, ends='no 8 at 95')
 put('over with E', eng(E=1), C7, cut(7, 300), judge(20), ends='over 3 4')
 put('over with share', eng(), card(7, 1000, 500, [(100, 3), (300, 1)], [100, 200]), cut(7, 300),

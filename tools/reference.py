@@ -1,6 +1,6 @@
 """Independent reference: what weigh prints for a plan file. Python 3, standard library only.
 
-lines(data) -> list of lines.  Written from the papers, on purpose not in the shape of the product:
+lines(data) -> list of lines.  Written from the rules, on purpose not in the shape of the product:
 recursive descent instead of a state machine, bisection instead of square roots, every whole speed
 looked at for a band's cost, and walks searched from their beginning, indexed by where they END.
 """

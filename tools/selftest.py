@@ -1,4 +1,4 @@
-"""Checks of reference.py: the paper's examples, and second and third ways of computing."""
+"""Checks of reference.py: the worked examples, and second and third ways of computing."""
 import random
 from math import isqrt
 import reference as R

@@ -1,5 +1,5 @@
--- Gaps: the least whole number of ticks between the starts of two successive turns of an engine, from a speed in
--- one band to a speed in another.
+-- Gaps: how many whole ticks every turn of an engine takes at the least that leads from a speed in one band to a
+-- speed in another.
 use mathlib.Core.Path.{_≡_}
 use mathlib.Core.Bool.{Bool, true, false, cond, _&&_}
 use Prim.Native.Nat.{ℕ, zero, suc, _+_, _-_, _*_, _≤_}
