@@ -8,8 +8,8 @@ use native.Mathlib.Omega.{arith}
 use lib.Dec.{leb, ltb}
 use Rattle.std.specs.declared.option.Option.the-variants.{Some, None}
 use Rattle.std.proofs.shelf.Tests.{cases-lt, cases-order, leb-true, leb-false, le-leb, lt-leb, lt-ltb, and-parts, cond-true, cond-false, cond-both, both-ways, cases-bool, and-cases}
-use Rattle.bands.specs.Gaps.{Pair, square, has-gap, rule-1, rule-2, rule-3, peak, allows, Is-gap, Gap-by-rules, greatest-upto, gap-value}
-use Rattle.bands.specs.Rules.{allows-1, allows-2, allows-3, allows-4, Last, Fits}
+use Rattle.bands.specs.Gaps.{Pair, square, has-gap, rule-1, rule-2, rule-3, peak, allows, Is-gap, Gap-by-rules, greatest-upto, gap-value, allows-1, allows-2, allows-3, allows-4}
+use Rattle.bands.specs.Rules.{Last, Fits}
 use Rattle.bands.proofs.Squares.{steady-most, steady-one, near, peaked-most, peaked-one, capped-most, capped-one}
 
 -- whatever holds of the first rule that applies holds of the gap's test

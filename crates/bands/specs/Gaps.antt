@@ -47,13 +47,24 @@ peak x = 2 * x .A * x .D * x .G + x .D * square (x .ui) + x .A * square (x .uj)
 abbrev pub rule-3 : Pair → Bool
 rule-3 x = leb (peak x) ((x .A + x .D) * square (x .M))
 
+-- T ticks are allowed by each rule
+abbrev pub allows-1 : Pair → ℕ → Bool
+allows-1 x T = leb (square (x .A * T + x .ui)) (square (x .ui) + 2 * x .A * x .G)
+
+abbrev pub allows-2 : Pair → ℕ → Bool
+allows-2 x T = leb (square (x .D * T + x .uj)) (square (x .uj) + 2 * x .D * x .G)
+
+abbrev pub allows-3 : Pair → ℕ → Bool
+allows-3 x T = leb (square (x .A * x .D * T + x .D * x .ui + x .A * x .uj)) ((x .A + x .D) * peak x)
+
+abbrev pub allows-4 : Pair → ℕ → Bool
+allows-4 x T =
+    leb (2 * x .A * x .D * x .M * T)
+    (2 * x .A * x .D * x .G + x .D * square (x .M - x .ui) + x .A * square (x .M - x .uj))
+
 -- T ticks are allowed by the first rule that applies
 abbrev pub allows : Pair → ℕ → Bool
-allows x T =
-    cond (rule-1 x) (leb (square (x .A * T + x .ui)) (square (x .ui) + 2 * x .A * x .G))
-    (cond (rule-2 x) (leb (square (x .D * T + x .uj)) (square (x .uj) + 2 * x .D * x .G))
-    (cond (rule-3 x) (leb (square (x .A * x .D * T + x .D * x .ui + x .A * x .uj)) ((x .A + x .D) * peak x))
-    (leb (2 * x .A * x .D * x .M * T) (2 * x .A * x .D * x .G + x .D * square (x .M - x .ui) + x .A * square (x .M - x .uj)))))
+allows x T = cond (rule-1 x) (allows-1 x T) (cond (rule-2 x) (allows-2 x T) (cond (rule-3 x) (allows-3 x T) (allows-4 x T)))
 
 -- The gap, stated: absent exactly where no turn leads from i to j, and otherwise the greatest whole number that the
 -- first applying rule allows, which lies from 1 to 100,000,000.

@@ -1,32 +1,16 @@
--- The four rules of a gap one by one, and the limits within which they are asked.
+-- The limits within which the rules of a gap are asked.
 use mathlib.Core.Path.{_≡_}
 use mathlib.Core.Bool.{Bool, true, false}
 use Prim.Native.Nat.{ℕ, _+_, _-_, _*_, _≤_, _<_}
-use lib.Dec.{leb}
 use Rattle.engine.specs.Views.{Numbers, Parts}
-use Rattle.bands.specs.Gaps.{Pair, square, peak}
+use Rattle.bands.specs.Gaps.{Pair, square}
 use Rattle.bands.specs.Graphs.{lower-end, upper-end}
 use Rattle.bands.specs.declared.gaps.Band.{Band}
 use Rattle.bands.specs.declared.gaps.Turn.{Turn}
 
--- T ticks are allowed by each rule; `allows` is the first of these that applies
-abbrev pub allows-1 : Pair → ℕ → Bool
-allows-1 x T = leb (square (x .A * T + x .ui)) (square (x .ui) + 2 * x .A * x .G)
-
-abbrev pub allows-2 : Pair → ℕ → Bool
-allows-2 x T = leb (square (x .D * T + x .uj)) (square (x .uj) + 2 * x .D * x .G)
-
-abbrev pub allows-3 : Pair → ℕ → Bool
-allows-3 x T = leb (square (x .A * x .D * T + x .D * x .ui + x .A * x .uj)) ((x .A + x .D) * peak x)
-
 -- D(M - ui)² + A(M - uj)²
 abbrev pub lacks : Pair → ℕ
 lacks x = x .D * square (x .M - x .ui) + x .A * square (x .M - x .uj)
-
-abbrev pub allows-4 : Pair → ℕ → Bool
-allows-4 x T =
-    leb (2 * x .A * x .D * x .M * T)
-    (2 * x .A * x .D * x .G + x .D * square (x .M - x .ui) + x .A * square (x .M - x .uj))
 
 -- r is the greatest number that passes a test which all smaller numbers pass
 pub record Last (test : ℕ → Bool) (r : ℕ) : Type 0 where

@@ -2,8 +2,8 @@
 ghost use mathlib.Core.Path.{_≡_};
 ghost use mathlib.Core.Bool.{true};
 ghost use Prim.Native.Nat.{_+_, _*_, _≤_, _<_};
-ghost use Rattle.bands.specs.Gaps.{square, has-gap, rule-1, rule-2, rule-3, peak, allows, Gap-by-rules, gap-value};
-ghost use Rattle.bands.specs.Rules.{allows-1, allows-2, allows-3, allows-4, lacks, Last, Fits, pair-of};
+ghost use Rattle.bands.specs.Gaps.{square, has-gap, rule-1, rule-2, rule-3, peak, allows-1, allows-2, allows-3, allows-4, allows, Gap-by-rules, gap-value};
+ghost use Rattle.bands.specs.Rules.{lacks, Last, Fits, pair-of};
 
 // A band: its number, counted from 1, and its two ends.
 #[derive(Clone, Copy)]
