@@ -1,3 +1,4 @@
+#![tactic(auto)]
 // An engine card's bands as a task.
 mod gaps;
 pub mod kind;

@@ -1,3 +1,4 @@
+#![tactic(auto)]
 // Decks: an engine and its cards, changed, judged, and asked for the walks behind a verdict.
 pub mod calls;
 pub mod cards;

@@ -1,3 +1,4 @@
+#![tactic(auto)]
 // The greatest demand of every window length, for one task and in total.
 ghost use Rattle.std.specs.Prelude.{◌≡◌, length, MatchResult};
 ghost use Rattle.refusal.specs.Numbers.{refusal_in};

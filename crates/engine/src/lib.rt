@@ -1,3 +1,4 @@
+#![tactic(auto)]
 // Engines and engine cards, within their limits.
 pub mod card;
 pub mod changes;

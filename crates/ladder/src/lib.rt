@@ -1,3 +1,4 @@
+#![tactic(auto)]
 // The house ladder of speeds.
 ghost use Rattle.std.specs.Prelude.{◌≡◌};
 ghost use Rattle.ladder.specs.Rungs.{rung_speed, OnLadder};

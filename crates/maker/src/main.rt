@@ -1,3 +1,4 @@
+#![tactic(auto)]
 // Plays one whole history of a plan, from a new draft to a sealed plan, and prints what each call
 // answered.
 use deck::verdict::Verdict;

@@ -1,3 +1,4 @@
+#![tactic(auto)]
 // The refusals of every call, one number each.
 ghost use Rattle.std.specs.Prelude.{◌≡◌};
 ghost use Rattle.refusal.specs.Numbers.{number as numbered};

@@ -1,3 +1,4 @@
+#![tactic(auto)]
 // Tables: a slice whose first cells are in use, in rising order of a key.
 ghost use Rattle.std.specs.Prelude.{◌≡◌, ℕ, ◌+◌, ◌-◌, ◌<◌, ◌≤◌, length, take, drop, MatchOption, slice_index_or};
 ghost use Rattle.std.specs.List.{remove};

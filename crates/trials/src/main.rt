@@ -1,3 +1,4 @@
+#![tactic(auto)]
 // Runs many plan files, one after another, and prints what weigh prints for each. The expected
 // output was made by another program (tools/reference.py), which shares no code with this one.
 use std::io::Read;

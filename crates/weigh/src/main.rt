@@ -1,3 +1,4 @@
+#![tactic(auto)]
 // weigh: reads a plan file from standard input, and prints a line for each of its records.
 ghost use Rattle.std.specs.Prelude.{◌≤◌, length, IfOk};
 

@@ -1,3 +1,4 @@
+#![tactic(auto)]
 // The run of a plan file: from its bytes to the lines that weigh prints.
 pub mod answers;
 pub mod line;
