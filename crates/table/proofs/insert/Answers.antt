@@ -12,11 +12,11 @@ returns-then-used-table g c =
     let used = c.args.used in
     let at = c.place-at.result in
     let place = c.place-at.ensures in
-    let turned = c.rotate-right.new.self in
-    let l : length turned ≡ used + 1 - at = c.rotate-right.ensures.len ∙ simp (length-take, length-drop) (omega arith) in
+    let turned = c.rotate_right.new.self in
+    let l : length turned ≡ used + 1 - at = c.rotate_right.ensures.len ∙ simp (length-take, length-drop) (omega arith) in
     record {
       items = λ u.
-          turned_up xs at used c.args.item turned place.within u c.rotate-right.ensures.after
+          turned_up xs at used c.args.item turned place.within u c.rotate_right.ensures.after
           ∙ sym (insert_by_used g.T.Keyed.key c.args.item c.key.result used xs at c.key.ensures (omega arith) place.within place.before place.next);
       rest = λ u.
           drop-set-lt (used + 1) _ at c.args.item (omega arith)

@@ -8,10 +8,10 @@ use Rattle.table.proofs.Moved.{turned_down}
 pub returns-then-used-table : goal.returns-then-used-table
 returns-then-used-table g c = record {
   items = λ a u.
-      turned_down c.args.table.now c.args.at c.args.used c.rotate-left.new.self a u c.rotate-left.ensures.after;
+      turned_down c.args.table.now c.args.at c.args.used c.rotate_left.new.self a u c.rotate_left.ensures.after;
   rest = λ a u.
-      drop-put_mid c.args.at (c.args.used - c.args.at) c.args.table.now c.rotate-left.new.self c.args.used (omega arith) (omega arith)
-      (c.rotate-left.ensures.len ∙ simp (length-take, length-drop) (omega arith));
+      drop-put_mid c.args.at (c.args.used - c.args.at) c.args.table.now c.rotate_left.new.self c.args.used (omega arith) (omega arith)
+      (c.rotate_left.ensures.len ∙ simp (length-take, length-drop) (omega arith));
   past = λ u. absurd (omega arith);
   long = λ u. absurd (omega arith);
 }
