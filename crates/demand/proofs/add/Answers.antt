@@ -9,20 +9,20 @@ use Rattle.demand.proofs.add.Goals as goal
 pub fill-requires : goal.fill-requires
 fill-requires g c =
     let task = c.args.task.now in
-    let lent = lent_fits c.args.horizon (length c.args.work.now) (length c.args.totals.now) c.in-ok-check-lent.ensures in
+    let lent = lent_fits c.args.horizon (length c.args.work.now) (length c.args.totals.now) c.in_ok-check_lent.ensures in
     (subst Lawful (sym c.of-local.ensures) (g.met.T.Task.lawful task), lent.most, omega (arith, lent.work_room))
 
-pub add-rows-requires : goal.add-rows-requires
-add-rows-requires g c =
+pub add_rows-requires : goal.add_rows-requires
+add_rows-requires g c =
     let task = c.args.task.now in
-    let lent = lent_fits c.args.horizon (length c.args.work.now) (length c.args.totals.now) c.in-ok-check-lent.ensures in
+    let lent = lent_fits c.args.horizon (length c.args.work.now) (length c.args.totals.now) c.in_ok-check_lent.ensures in
     (subst Lawful (sym c.of-local.ensures) (g.met.T.Task.lawful task), lent.most, omega (arith, lent.work_room, c.fill.auto.work), lent.totals_room, c.fill.ensures.rows)
 
 pub returns : goal.returns
 returns g c = record {
-  refusal = c.in-ok-check-lent.ensures;
-  added = subst (λ (a : Graph). Added a c.args.horizon c.args.work.now c.fill.new.work c.args.totals.now c.add-rows.new.totals)
+  refusal = c.in_ok-check_lent.ensures;
+  added = subst (λ (a : Graph). Added a c.args.horizon c.args.work.now c.fill.new.work c.args.totals.now c.add_rows.new.totals)
       c.of-local.ensures
-      (added_from (graph_of c.of-local.result) c.args.horizon c.args.work.now c.fill.new.work c.args.totals.now c.add-rows.new.totals
-      c.fill.ensures.spare c.add-rows.ensures.grown c.add-rows.ensures.beyond);
+      (added_from (graph_of c.of-local.result) c.args.horizon c.args.work.now c.fill.new.work c.args.totals.now c.add_rows.new.totals
+      c.fill.ensures.spare c.add_rows.ensures.grown c.add_rows.ensures.beyond);
 }

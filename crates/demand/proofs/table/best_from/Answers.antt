@@ -12,8 +12,8 @@ returns-then-local-v c =
     best_late (graph_of copy) c.requires.0 c.args.t (c.args.v + 1)
     (omega (arith, copy_deadline copy c.args.v c.requires.1, c.if-local-v.true))
 
-pub overflow-add-result : goal.overflow-add-result
-overflow-add-result c =
+pub overflow_add-result : goal.overflow_add-result
+overflow_add-result c =
     let copy = c.args.local.now in
     let v = c.args.v in
     let place : Place (graph_of copy) (v + 1) = (omega arith, omega (arith, copy_places copy, c.requires.1)) in
@@ -23,16 +23,16 @@ overflow-add-result c =
       copy_cost copy v c.requires.1,
       most,
       c.requires.2,
-      rest_most (graph_of copy) c.requires.0 c.args.t (v + 1) copy.places c.rest-after.result c.rest-after.ensures,
+      rest_most (graph_of copy) c.requires.0 c.args.t (v + 1) copy.places c.rest_after.result c.rest_after.ensures,
     )
 
 pub returns : goal.returns
 returns c =
     let copy = c.args.local.now in
     let v = c.args.v in
-    let rest = c.rest-after.result in
+    let rest = c.rest_after.result in
     let place : Place (graph_of copy) (v + 1) = (omega arith, omega (arith, copy_places copy, c.requires.1)) in
     best_of_rest (graph_of copy) c.args.t (v + 1) rest _ place
     (omega (arith, copy_deadline copy v c.requires.1, c.if-local-v.false))
-    (subst (λ k. Rest (graph_of copy) c.args.t (v + 1) k rest) (sym (copy_places copy)) c.rest-after.ensures)
+    (subst (λ k. Rest (graph_of copy) c.args.t (v + 1) k rest) (sym (copy_places copy)) c.rest_after.ensures)
     (omega (arith, copy_cost copy v c.requires.1))

@@ -4,7 +4,7 @@ use Rattle.demand.specs.Table.{Rest}
 use Rattle.demand.proofs.Bests.{rest_absent, rest_late, rest_more, greater}
 use Rattle.demand.proofs.Copies.{copy_places, copy_gap, copy_ticks}
 use Rattle.demand.proofs.table.rest_after.Goals as goal
-use Rattle.demand.proofs.table.rest_after.Goals.{in-Some+then-gap-t, in-Some+else-gap-t, in-default}
+use Rattle.demand.proofs.table.rest_after.Goals.{in-Some+then-gap-t, in-Some+else-gap-t, in_default}
 
 pub bounds-work-t : goal.bounds-work-t
 bounds-work-t c =
@@ -34,7 +34,7 @@ loop-u-preserved c =
       | in-Some+else-gap-t w ↦
           subst (λ n. Rest graph t (v + 1) (u + 1) n) (sym w.rest-is)
           (rest_late graph t (v + 1) u rest w.in-Some.gap c.loop-u.invariant (gap ∙ w.in-Some.is) (omega (arith, w.if-gap-t.false)))
-      | in-default w ↦
+      | in_default w ↦
           subst (λ n. Rest graph t (v + 1) (u + 1) n) (sym w.rest-is)
-          (rest_absent graph t (v + 1) u rest c.loop-u.invariant (gap ∙ w.in-default.is))
+          (rest_absent graph t (v + 1) u rest c.loop-u.invariant (gap ∙ w.in_default.is))
     ]

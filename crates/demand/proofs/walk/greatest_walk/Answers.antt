@@ -9,12 +9,12 @@ use Rattle.demand.proofs.walk.greatest_walk.Goals as goal
 
 pub fill-requires : goal.fill-requires
 fill-requires g c =
-    let lent = told_fits c.args.window (length c.args.work.now) (length c.args.jobs.now) c.in-ok-check-told.ensures in
+    let lent = told_fits c.args.window (length c.args.work.now) (length c.args.jobs.now) c.in_ok-check_told.ensures in
     (subst Lawful (sym c.of-local.ensures) (g.met.T.Task.lawful c.args.task.now), lent.most, omega (arith, lent.work_room))
 
-pub first-place-first-requires : goal.first-place-first-requires
-first-place-first-requires g c =
-    let lent = told_fits c.args.window (length c.args.work.now) (length c.args.jobs.now) c.in-ok-check-told.ensures in (
+pub first_place-first-requires : goal.first_place-first-requires
+first_place-first-requires g c =
+    let lent = told_fits c.args.window (length c.args.work.now) (length c.args.jobs.now) c.in_ok-check_told.ensures in (
       subst Lawful (sym c.of-local.ensures) (g.met.T.Task.lawful c.args.task.now),
       omega (arith, lent.work_room, c.fill.auto.work),
       c.fill.ensures.rows,
@@ -26,18 +26,18 @@ returns-then-demand-eq0 g c =
     let jobs = c.args.jobs.now in
     let lawful = subst Lawful (sym c.of-local.ensures) (g.met.T.Task.lawful c.args.task.now) in
     record {
-      refusal = c.in-ok-check-told.ensures;
+      refusal = c.in_ok-check_told.ensures;
       told = subst (λ (a : Graph). Tells a c.args.window jobs jobs 0 0) c.of-local.ensures
-          (tells_none (graph_of copy) lawful c.args.window c.first-place-first.result.1 jobs c.first-place-first.ensures.greatest c.if-demand-eq0.true);
+          (tells_none (graph_of copy) lawful c.args.window c.first_place-first.result.1 jobs c.first_place-first.ensures.greatest c.if-demand-eq0.true);
       spare = spare_from c.args.window c.args.work.now c.fill.new.work c.fill.ensures.spare;
     }
 
-pub put-jobs-count-requires : goal.put-jobs-count-requires
-put-jobs-count-requires g c =
+pub put_jobs-count-requires : goal.put_jobs-count-requires
+put_jobs-count-requires g c =
     let copy = c.of-local.result in
-    let lent = told_fits c.args.window (length c.args.work.now) (length c.args.jobs.now) c.in-ok-check-told.ensures in
-    let more : 1 ≤ c.first-place-first.result.1 = omega (arith, c.if-demand-eq0.false) in
-    let here = c.first-place-first.ensures.here more in (
+    let lent = told_fits c.args.window (length c.args.work.now) (length c.args.jobs.now) c.in_ok-check_told.ensures in
+    let more : 1 ≤ c.first_place-first.result.1 = omega (arith, c.if-demand-eq0.false) in
+    let here = c.first_place-first.ensures.here more in (
       subst Lawful (sym c.of-local.ensures) (g.met.T.Task.lawful c.args.task.now),
       omega (arith, here.0, copy_places copy),
       lent.most,
@@ -52,15 +52,15 @@ returns g c =
     let copy = c.of-local.result in
     let window = c.args.window in
     let jobs = c.args.jobs.now in
-    let jobs' = c.put-jobs-count.new.jobs in
-    let count = c.put-jobs-count.result in
-    let demand = c.first-place-first.result.1 in
+    let jobs' = c.put_jobs-count.new.jobs in
+    let count = c.put_jobs-count.result in
+    let demand = c.first_place-first.result.1 in
     let more : 1 ≤ demand = omega (arith, c.if-demand-eq0.false) in
-    let here = c.first-place-first.ensures.here more in
-    let walk = subst (WalkTold (graph_of copy) window jobs jobs' count) here.1 c.put-jobs-count.ensures in
+    let here = c.first_place-first.ensures.here more in
+    let walk = subst (WalkTold (graph_of copy) window jobs jobs' count) here.1 c.put_jobs-count.ensures in
     record {
-      refusal = c.in-ok-check-told.ensures;
+      refusal = c.in_ok-check_told.ensures;
       told = subst (λ (a : Graph). Tells a window jobs jobs' count demand) c.of-local.ensures
-          (record { greatest = c.first-place-first.ensures.greatest; told = inr walk });
+          (record { greatest = c.first_place-first.ensures.greatest; told = inr walk });
       spare = spare_from window c.args.work.now c.fill.new.work c.fill.ensures.spare;
     }

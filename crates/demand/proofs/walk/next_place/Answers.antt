@@ -4,7 +4,7 @@ use Rattle.demand.specs.Table.{cell_at}
 use Rattle.demand.proofs.Copies.{copy_places, copy_cost, copy_gap}
 use Rattle.demand.proofs.Tolds.{cell_cost, rest_found, NoneBefore, none_more}
 use Rattle.demand.proofs.walk.next_place.Goals as goal
-use Rattle.demand.proofs.walk.next_place.Goals.{in-Some+else-gap-left, else-gap-left-via-then-gap-left+else-work-left, else-gap-left-via-else-gap-left, in-default}
+use Rattle.demand.proofs.walk.next_place.Goals.{in-Some+else-gap-left, else-gap-left-via-then-gap-left+else-work-left, else-gap-left-via-else-gap-left, in_default}
 
 same_gap : (o : Option ℕ) (a b : ℕ) → o ≡ Some a → o ≡ Some b → a ≡ b
 same_gap o a b p q = cc
@@ -12,8 +12,8 @@ same_gap o a b p q = cc
 no_gap : (o : Option ℕ) (a : ℕ) → o ≡ Some a → o ≡ None → ⊥
 no_gap o a p q = let z : ◌≡◌ {A = ℕ} 0 1 = cc in omega arith
 
-pub overflow-sub-rest : goal.overflow-sub-rest
-overflow-sub-rest c =
+pub overflow_sub-rest : goal.overflow_sub-rest
+overflow_sub-rest c =
     let copy = c.args.local.now in
     let left = c.args.left in
     let v = c.args.v in
@@ -39,7 +39,7 @@ loop-u-preserved c =
                 w'.if-work-left.false at
             | else-gap-left-via-else-gap-left w' ↦ omega (arith, w'.if-gap-left.false)
           ]
-      | in-default w ↦ no_gap ((graph_of copy).gap (v + 1) (u + 1)) d is (gap ∙ w.in-default.is)
+      | in_default w ↦ no_gap ((graph_of copy).gap (v + 1) (u + 1)) d is (gap ∙ w.in_default.is)
     ])
 
 pub returns-then-rest-eq0 : goal.returns-then-rest-eq0

@@ -11,8 +11,8 @@ pub loop-u-init : goal.loop-u-init
 loop-u-init c =
     (c.requires.1, omega arith, c.requires.6, walked_none (graph_of c.args.local.now) c.args.work.now c.args.window c.args.first c.args.jobs.now, refl)
 
-pub overflow-add-jobs-in-loop-u : goal.overflow-add-jobs-in-loop-u
-overflow-add-jobs-in-loop-u c =
+pub overflow_add-jobs-in-loop-u : goal.overflow_add-jobs-in-loop-u
+overflow_add-jobs-in-loop-u c =
     let copy = c.args.local.now in
     let v = c.loop-u.v in
     let h = c.loop-u.invariant.0 in

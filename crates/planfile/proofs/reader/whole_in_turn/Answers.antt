@@ -13,10 +13,10 @@ decided : (short turn answer : Bool) (x r : Record) → Some r ≡ cond short No
 decided true turn answer x r e h = cc
 decided false turn answer x r e h = cc
 
-pub returns-then-in-turn : goal.returns-then-in-turn
+pub returns-then-in_turn : goal.returns-then-in_turn
 unfolding by_turn
-returns-then-in-turn c = decided _ _ true _ _ c.in-Some.ensures c.if-in-turn.ensures
+returns-then-in_turn c = decided _ _ true _ _ c.in-Some.ensures c.if-in_turn.ensures
 
-pub returns-else-in-turn : goal.returns-else-in-turn
+pub returns-else-in_turn : goal.returns-else-in_turn
 unfolding by_turn
-returns-else-in-turn c = decided _ _ false _ _ c.in-Some.ensures c.if-in-turn.ensures
+returns-else-in_turn c = decided _ _ false _ _ c.in-Some.ensures c.if-in_turn.ensures

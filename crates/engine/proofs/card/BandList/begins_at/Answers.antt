@@ -4,4 +4,4 @@ use Rattle.engine.proofs.card.BandList.begins_at.Goals as goal
 
 pub returns : goal.returns
 returns c =
-    c.is-some.ensures ∙ found_number c.args.speed c.args.self.now.used c.args.self.now.table c.find.result c.find.ensures
+    c.is_some.ensures ∙ found_number c.args.speed c.args.self.now.used c.args.self.now.table c.find.result c.find.ensures
