@@ -10,7 +10,7 @@ loop-v-preserved c =
     let work = c.loop-v.work in
     let t = c.args.t in
     let v = c.loop-v.v in (
-      rows_more (graph_of copy) work t v c.best_from.result c.requires.0.few (omega arith) c.loop-v.invariant.0 c.best_from.ensures,
+      rows_more (graph_of copy) work t v c.best_from.result c.requires.lawful.few (omega arith) c.loop-v.invariant.0 c.best_from.ensures,
       spared_set ((t + 1) * 24) c.args.work.now work (t * 24 + v) c.best_from.result (omega arith) c.loop-v.invariant.1,
     )
 

@@ -16,12 +16,12 @@ loop-v-preserved c =
     let cell = get_or c.args.work.now (t * 24 + v) 0 in
     let x = greater c.loop-v.best cell c.max-best.result c.max-best.ensures in
     most_more (graph_of copy) t v c.loop-v.best cell c.max-best.result c.loop-v.invariant
-    (c.requires.2.above t v (omega arith) (omega (arith, copy_places copy)))
+    (c.requires.rows.above t v (omega arith) (omega (arith, copy_places copy)))
     x.0 x.1 x.2
 
 pub returns : goal.returns
 returns c =
     let copy = c.args.local.now in
     let e : c.loop-v.v ≡ (graph_of copy).places = omega (arith, copy_places copy) in
-    most_all (graph_of copy) c.requires.0 c.args.t c.loop-v.best
+    most_all (graph_of copy) c.requires.lawful c.args.t c.loop-v.best
     (subst (λ k. Most (graph_of copy) c.args.t k c.loop-v.best) e c.loop-v.invariant)

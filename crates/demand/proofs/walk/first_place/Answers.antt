@@ -17,7 +17,7 @@ loop-v-preserved c =
     let v = c.loop-v.v in
     let cell = cell_at work t v in
     let best = c.loop-v.best in
-    let here = c.requires.2.above t v (omega arith) (omega (arith, copy_places copy)) in
+    let here = c.requires.rows.above t v (omega arith) (omega (arith, copy_places copy)) in
     elim c.if-cell-best.branch [
       | then-cell-best w ↦ (
         most_more (graph_of copy) t v best cell c.if-cell-best.best c.loop-v.invariant.0 here
@@ -43,7 +43,7 @@ returns c =
     let copy = c.args.local.now in
     let e : c.loop-v.v ≡ (graph_of copy).places = omega (arith, copy_places copy) in
     record {
-      greatest = most_all (graph_of copy) c.requires.0 c.args.t c.loop-v.best
+      greatest = most_all (graph_of copy) c.requires.lawful c.args.t c.loop-v.best
           (subst (λ k. Most (graph_of copy) c.args.t k c.loop-v.best) e c.loop-v.invariant.0);
       here = λ h. let old = c.loop-v.invariant.1 h in (omega (arith, old.0, copy_places copy), old.1);
     }

@@ -10,15 +10,15 @@ use Rattle.demand.proofs.walk.greatest_walk.Goals as goal
 pub fill-requires : goal.fill-requires
 fill-requires g c =
     let lent = told_fits c.args.window (length c.args.work.now) (length c.args.jobs.now) c.in_ok-check_told.ensures in
-    (subst Lawful (sym c.of-local.ensures) (g.met.T.Task.lawful c.args.task.now), lent.most, omega (arith, lent.work_room))
+    (record { lawful = subst Lawful (sym c.of-local.ensures) (g.met.T.Task.lawful c.args.task.now); horizon_bound = lent.most; horizon_in_bounds = omega (arith, lent.work_room) })
 
 pub first_place-first-requires : goal.first_place-first-requires
 first_place-first-requires g c =
-    let lent = told_fits c.args.window (length c.args.work.now) (length c.args.jobs.now) c.in_ok-check_told.ensures in (
-      subst Lawful (sym c.of-local.ensures) (g.met.T.Task.lawful c.args.task.now),
-      omega (arith, lent.work_room, c.fill.auto.work),
-      c.fill.ensures.rows,
-    )
+    let lent = told_fits c.args.window (length c.args.work.now) (length c.args.jobs.now) c.in_ok-check_told.ensures in (record {
+      lawful = subst Lawful (sym c.of-local.ensures) (g.met.T.Task.lawful c.args.task.now);
+      t_in_bounds = omega (arith, lent.work_room, c.fill.auto.work);
+      rows = c.fill.ensures.rows;
+    })
 
 pub returns-then-demand-eq0 : goal.returns-then-demand-eq0
 returns-then-demand-eq0 g c =
@@ -37,15 +37,15 @@ put_jobs-count-requires g c =
     let copy = c.of-local.result in
     let lent = told_fits c.args.window (length c.args.work.now) (length c.args.jobs.now) c.in_ok-check_told.ensures in
     let more : 1 ≤ c.first_place-first.result.1 = omega (arith, c.if-demand-eq0.false) in
-    let here = c.first_place-first.ensures.here more in (
-      subst Lawful (sym c.of-local.ensures) (g.met.T.Task.lawful c.args.task.now),
-      omega (arith, here.0, copy_places copy),
-      lent.most,
-      lent.jobs_room,
-      omega (arith, lent.work_room, c.fill.auto.work),
-      c.fill.ensures.rows,
-      omega (arith, here.1),
-    )
+    let here = c.first_place-first.ensures.here more in (record {
+      lawful = subst Lawful (sym c.of-local.ensures) (g.met.T.Task.lawful c.args.task.now);
+      first_lt_places = omega (arith, here.0, copy_places copy);
+      window_bound = lent.most;
+      window_in_bounds = lent.jobs_room;
+      window_in_bounds_2 = omega (arith, lent.work_room, c.fill.auto.work);
+      rows = c.fill.ensures.rows;
+      bound = omega (arith, here.1);
+    })
 
 pub returns : goal.returns
 returns g c =
