@@ -4,12 +4,12 @@ use Rattle.std.specs.List.{AllByRecursion as All}
 use Rattle.task.specs.Walks.{ticks}
 use Rattle.task.specs.Graph.{Lawful}
 use Rattle.engine.specs.Views.{house_engine}
-use Rattle.bands.proofs.Ready.{Ready}
+use Rattle.bands.specs.Laws.Ready.{Ready}
 use Rattle.bands.specs.Gaps.{Pair, has_gap, allows, gap_value}
 use Rattle.bands.specs.Graphs.{pair_at, lesser}
 use Rattle.bands.specs.Examples.{small_engine, two_bands, three_bands, house_bands, two_graph, three_graph, house_graph, Holds, two_rows, three_rows, far_rows, Worked}
-use Rattle.bands.proofs.Rules.{value_some, value_none}
-use Rattle.bands.proofs.Lawful.{bands_lawful}
+use Rattle.bands.specs.Laws.Rules.{value_some, value_none}
+use Rattle.bands.specs.Laws.Lawful.{bands_lawful}
 
 -- a row of the table: T ticks are allowed, and one more is not
 row : (x : Pair) (T : ℕ) → has_gap x ≡ true → allows x T ≡ true → allows x (T + 1) ≡ false → T ≤ 100000000 → gap_value x ≡ Some T

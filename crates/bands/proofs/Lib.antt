@@ -1,14 +1,3 @@
-pub mod Squares
-pub mod Rules
 pub mod Bounds
-pub mod Ends
-pub mod Costs
-pub mod Leaving
-pub mod Lawful
-pub mod Ready
 pub mod Examples
-pub mod TurnsArith
-pub mod TurnsSpeeds
-pub mod Turns
 pub mod TurnsExamples
-pub mod Drives

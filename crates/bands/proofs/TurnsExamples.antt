@@ -8,7 +8,7 @@ use Rattle.engine.specs.Views.{Numbers, Parts, house_engine}
 use Rattle.bands.specs.Graphs.{pair_at, band_gap}
 use Rattle.bands.specs.Examples.{small_engine, three_bands}
 use Rattle.bands.specs.Turns.{Changes, pairs, end_speed, Turn, InBand, Leads, Beaten}
-use Rattle.bands.proofs.Rules.{value_some}
+use Rattle.bands.specs.Laws.Rules.{value_some}
 
 -- ---- at a steady speed
 steady_within : (low high s : ℕ) → low ≤ s → s ≤ high → (n : ℕ) → All (λ v. (low ≤ v) × (v ≤ high)) (replicate n s)

@@ -5,3 +5,4 @@ pub mod Turns
 pub mod Examples
 pub mod Drives
 pub mod Real
+pub mod Laws

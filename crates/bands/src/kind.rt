@@ -5,17 +5,14 @@ ghost use Rattle.engine.specs.Limits.{angle_ok, bands_ok};
 ghost use Rattle.refusal.specs.Numbers.{refusal_in};
 ghost use Rattle.engine.specs.Changes.{card_refusal};
 ghost use Rattle.engine.specs.Views.{numbers_of, parts_of, modes_ok, modes_of, bands_of};
-ghost use Rattle.bands.specs.Drives.{BandsLists};
 ghost use Rattle.bands.specs.Gaps.{GapByRules};
 ghost use Rattle.bands.specs.Rules.{pair_of, BandOf};
 ghost use Rattle.bands.specs.Graphs.{lower_end, upper_end, pair_at, band_here, band_gap, mode_end, has_shared_speed, cost_between, band_cost, GreatestCost, lesser as lesser-gap, band_deadline, LeastGap, bands_graph};
-ghost use Rattle.std.proofs.Common.{rules, arith};
 
 use crate::gaps::{Band, Turn, gap};
 use engine::card::{Card, Mode};
 use engine::engine::Engine;
 use refusal::Refusal;
-use task::interface::Task;
 
 // A card that is right for its engine.
 #[derive(Clone, Copy)]
@@ -45,7 +42,7 @@ impl Bands {
     }
 
     // How many bands there are.
-    fn count(&self) -> usize
+    pub(crate) fn count(&self) -> usize
         ensures { result ≡ length (bands_of self.now.card) }
     {
         self.lows().len()
@@ -201,30 +198,4 @@ fn greatest_cost(top: u32, low: u32, high: u32, modes: &[Mode]) -> u32
         }
     }
     cost
-}
-
-impl Task for Bands {
-    ghost graph = { λ b. bands_graph (numbers_of b.engine) (parts_of b.card) };
-
-    ghost lists = { λ b. BandsLists (numbers_of b.engine) (parts_of b.card) };
-
-    ghost lawful = { first_of (Prim.search rules, Prim.grind (arith, Self.row.coded.inj)) };
-
-    ghost follows = { first_of (Prim.search rules, Prim.grind (arith, Self.row.coded.inj)) };
-
-    fn places(&self) -> usize {
-        self.count()
-    }
-
-    fn cost(&self, place: usize) -> u32 {
-        self.band_cost(place)
-    }
-
-    fn deadline(&self, place: usize) -> u32 {
-        self.band_deadline(place)
-    }
-
-    fn gap(&self, from: usize, to: usize) -> Option<u32> {
-        self.gap_between(from, to)
-    }
 }

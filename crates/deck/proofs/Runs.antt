@@ -12,9 +12,9 @@ use Rattle.engine.specs.Limits.{every, between}
 use Rattle.engine.specs.Views.{Numbers}
 use Rattle.bands.specs.Graphs.{bands_graph}
 use Rattle.bands.specs.Drives.{DrivesJudged}
-use Rattle.bands.proofs.Ready.{Ready}
-use Rattle.bands.proofs.Lawful.{bands_lawful}
-use Rattle.bands.proofs.Drives.{drives_follow, judged_lists}
+use Rattle.bands.specs.Laws.Ready.{Ready}
+use Rattle.bands.specs.Laws.Lawful.{bands_lawful}
+use Rattle.bands.specs.Laws.Drives.{drives_follow, judged_lists}
 use Rattle.deck.specs.Tables.{Crank, Clock, right_card}
 use Rattle.deck.specs.Cards.{Cards}
 use Rattle.deck.specs.Calls.{clock_ok}

@@ -4,7 +4,7 @@ use Rattle.std.proofs.lemmas.Bool.{and_parts, and_from, le-leb, lt-ltb, leb-true
 use Rattle.engine.specs.declared.engine.Engine.{Engine}
 use Rattle.engine.specs.Limits.{engine_ok, between, every}
 use Rattle.engine.specs.Views.{Numbers, numbers_of}
-use Rattle.bands.proofs.Ready.{Ready}
+use Rattle.bands.specs.Laws.Ready.{Ready}
 use Rattle.deck.specs.declared.cards.CrankCard.{CrankCard}
 use Rattle.deck.specs.declared.cards.TimedCard.{TimedCard}
 use Rattle.deck.specs.declared.deck.Deck.{Deck}

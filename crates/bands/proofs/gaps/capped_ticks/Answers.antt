@@ -1,11 +1,11 @@
 use Rattle.std.proofs.Common.{ℕ, ◌+◌, ◌-◌, ◌*◌, ◌≤◌, sym, ap, ◌∙◌, add_assoc, mul-pos, arith}
 use Rattle.bands.specs.Gaps.{square}
 use Rattle.bands.proofs.Bounds.{rates_angle_most}
-use Rattle.bands.proofs.Rules.{quotient_last}
+use Rattle.bands.specs.Laws.Rules.{quotient_last}
 use Rattle.bands.proofs.gaps.capped_ticks.Goals as goal
 
-pub overflow-add-result : goal.overflow-add-result
-overflow-add-result c =
+pub overflow_add-result : goal.overflow_add-result
+overflow_add-result c =
     let t = c.args.turn in
     let g = rates_angle_most t.rise t.fall t.angle c.requires.rise_most c.requires.fall_most c.requires.angle_most in
     omega (arith, g, c.lacking.ensures.most)
@@ -16,8 +16,8 @@ positive A D M a d m =
     let h : 1 ≤ 2 * A * D = mul-pos two d in
     mul-pos h m
 
-pub nonzero-div-result : goal.nonzero-div-result
-nonzero-div-result c =
+pub nonzero_div-result : goal.nonzero_div-result
+nonzero_div-result c =
     let t = c.args.turn in
     positive t.rise t.fall t.top c.requires.rise_least c.requires.fall_least (omega (arith, c.requires.from_least, c.requires.from_most))
 

@@ -2,15 +2,15 @@ use Rattle.std.proofs.Common.{ℕ, ◌+◌, ◌*◌, ap₂, arith}
 use Rattle.bands.proofs.Bounds.{weighed_most, rates_angle_most}
 use Rattle.bands.proofs.gaps.peak_of.Goals as goal
 
-pub overflow-add-result : goal.overflow-add-result
-overflow-add-result c =
+pub overflow_add-result : goal.overflow_add-result
+overflow_add-result c =
     let t = c.args.turn in
     let g = rates_angle_most t.rise t.fall t.angle c.requires.rise_most c.requires.fall_most c.requires.angle_most in
     let h = weighed_most t.fall c.squared.result c.requires.fall_most c.squared.ensures.most in
     omega (arith, g, h)
 
-pub overflow-add-result-2 : goal.overflow-add-result-2
-overflow-add-result-2 c =
+pub overflow_add-result-2 : goal.overflow_add-result-2
+overflow_add-result-2 c =
     let t = c.args.turn in
     let g = rates_angle_most t.rise t.fall t.angle c.requires.rise_most c.requires.fall_most c.requires.angle_most in
     let h = weighed_most t.fall c.squared.result c.requires.fall_most c.squared.ensures.most in

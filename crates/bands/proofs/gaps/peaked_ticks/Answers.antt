@@ -2,18 +2,18 @@ use Rattle.std.proofs.Common.{◌+◌, ◌*◌, ◌≤◌, sym, ap, subst, mul-p
 use Rattle.bands.specs.Gaps.{square, peak}
 use Rattle.bands.specs.Rules.{pair_of}
 use Rattle.bands.proofs.Bounds.{peak_most, base_most}
-use Rattle.bands.proofs.Squares.{peak_start}
-use Rattle.bands.proofs.Rules.{two_steps_last}
+use Rattle.bands.specs.Laws.Squares.{peak_start}
+use Rattle.bands.specs.Laws.Rules.{two_steps_last}
 use Rattle.bands.proofs.gaps.peaked_ticks.Goals as goal
 
-pub overflow-mul-bound : goal.overflow-mul-bound
-overflow-mul-bound c =
+pub overflow_mul-bound : goal.overflow_mul-bound
+overflow_mul-bound c =
     let t = c.args.turn in
-    let k = peak_most t.rise t.fall c.peak-of.result c.requires.rise_most c.requires.fall_most c.peak-of.ensures.most in
+    let k = peak_most t.rise t.fall c.peak_of.result c.requires.rise_most c.requires.fall_most c.peak_of.ensures.most in
     omega (arith, k)
 
-pub overflow-add-base : goal.overflow-add-base
-overflow-add-base c =
+pub overflow_add-base : goal.overflow_add-base
+overflow_add-base c =
     let t = c.args.turn in
     let from : t.from.high ≤ 150000 = omega (arith, c.requires.from_most, c.requires.speed_most) in
     let to : t.to.high ≤ 150000 = omega (arith, c.requires.to_most, c.requires.speed_most) in
@@ -21,19 +21,19 @@ overflow-add-base c =
     let k = base_most t.rise t.to.high c.requires.rise_most to in
     omega (arith, h, k)
 
-pub most-steps-requires : goal.most-steps-requires
-most-steps-requires c =
+pub most_steps-requires : goal.most_steps-requires
+most_steps-requires c =
     let t = c.args.turn in
     record {
       moves = mul-pos c.requires.rise_least c.requires.fall_least;
       starts =
-          subst (λ v. square (t.fall * t.from.high + t.rise * t.to.high) ≤ (t.rise + t.fall) * v) (sym c.peak-of.ensures.value)
+          subst (λ v. square (t.fall * t.from.high + t.rise * t.to.high) ≤ (t.rise + t.fall) * v) (sym c.peak_of.ensures.value)
           (peak_start t.rise t.fall t.angle t.from.high t.to.high);
     }
 
 pub returns : goal.returns
 returns c =
     let t = c.args.turn in
-    two_steps_last (t.rise * t.fall) (t.fall * t.from.high) (t.rise * t.to.high) ((t.rise + t.fall) * c.peak-of.result)
-    ((t.rise + t.fall) * peak (pair_of t)) c.most-steps.result (ap (λ v. (t.rise + t.fall) * v) c.peak-of.ensures.value)
-    c.most-steps.ensures.within c.most-steps.ensures.past
+    two_steps_last (t.rise * t.fall) (t.fall * t.from.high) (t.rise * t.to.high) ((t.rise + t.fall) * c.peak_of.result)
+    ((t.rise + t.fall) * peak (pair_of t)) c.most_steps.result (ap (λ v. (t.rise + t.fall) * v) c.peak_of.ensures.value)
+    c.most_steps.ensures.within c.most_steps.ensures.past

@@ -17,11 +17,11 @@ loop-run-preserved c =
     let line = c.in-Goes.line in
     let items = vec_items c.loop-run.lines in
     let told : Turned bytes x x' (Goes line) =
-    subst (λ b. Turned b x x' (Goes line)) inv.1 (subst (Turned c.loop-run.run.reader.bytes.now x x') c.in-Goes.is c.in-ok-line.ensures.turned)
+    subst (λ b. Turned b x x' (Goes line)) inv.1 (subst (Turned c.loop-run.run.reader.bytes.now x x') c.in-Goes.is c.in_ok-line.ensures.turned)
     in (
       λ rest on.
           subst (Prints bytes new_plan no_card opens.Start 0)
-          (sym (ap (λ l. l ++ rest) c.in-ok-print.ensures ∙ append_assoc items (option_to_list line) rest))
+          (sym (ap (λ l. l ++ rest) c.in_ok-print.ensures ∙ append_assoc items (option_to_list line) rest))
           (inv.0 (option_to_list line ++ rest) (told.0 rest on)),
       c.turn.ensures.bytes ∙ inv.1,
       c.turn.auto.work ∙ inv.2,

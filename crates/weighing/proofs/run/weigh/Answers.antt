@@ -6,8 +6,8 @@ use Rattle.weighing.proofs.run.weigh.Goals as goal
 pub returns : goal.returns
 returns c =
     let bytes = c.args.bytes.now in
-    let short = c.if-bytes-gt-MOST-BYTES.false in
+    let short = c.if-bytes-gt-MOST_BYTES.false in
     record {
-      printed = IfOk-weaker c.run-file.result _ _ (λ v p. weighed_short bytes (vec_items v) short p) c.run-file.ensures;
-      history = IfOk-weaker c.run-file.result _ _ (λ v p. lines_hold bytes (vec_items v) (weighed_short bytes (vec_items v) short p)) c.run-file.ensures;
+      printed = IfOk-weaker c.run_file.result _ _ (λ v p. weighed_short bytes (vec_items v) short p) c.run_file.ensures;
+      history = IfOk-weaker c.run_file.result _ _ (λ v p. lines_hold bytes (vec_items v) (weighed_short bytes (vec_items v) short p)) c.run_file.ensures;
     }

@@ -15,9 +15,9 @@ pub loop-at-preserved : goal.loop-at-preserved
 loop-at-preserved c =
     let deck = c.args.self.now in
     let many = crank_count deck.cranks in (
-      grown_more (crank_graph (numbers_of deck.engine)) (cranks_in deck.cranks) c.loop-at.at none _ c.args.horizon c.args.totals.now c.loop-at.totals c.add-task.new.totals
-          (omega arith) (c.crank-task-task.ensures none) c.loop-at.invariant.0 c.add-task.ensures.sums,
-      spared_then (24 * (c.args.horizon + 1)) c.args.work.now c.loop-at.work c.add-task.new.work c.loop-at.invariant.1 c.add-task.ensures.spare,
+      grown_more (crank_graph (numbers_of deck.engine)) (cranks_in deck.cranks) c.loop-at.at none _ c.args.horizon c.args.totals.now c.loop-at.totals c.add_task.new.totals
+          (omega arith) (c.crank_task-task.ensures none) c.loop-at.invariant.0 c.add_task.ensures.sums,
+      spared_then (24 * (c.args.horizon + 1)) c.args.work.now c.loop-at.work c.add_task.new.work c.loop-at.invariant.1 c.add_task.ensures.spare,
     )
 
 pub returns : goal.returns

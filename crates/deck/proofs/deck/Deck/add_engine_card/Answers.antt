@@ -5,13 +5,13 @@ use Rattle.deck.proofs.Rights.{made_right}
 use Rattle.deck.proofs.Seen.{crank_count}
 use Rattle.deck.proofs.deck.Deck.add_engine_card.Goals as goal
 
-pub add-crank-requires : goal.add-crank-requires
-add-crank-requires c =
-    let made = c.in-ok-card.ensures in
+pub add_crank-requires : goal.add_crank-requires
+add_crank-requires c =
+    let made = c.in_ok-card.ensures in
     record {
       room = omega (arith, crank_count c.args.self.now.cranks, c.len.ensures, c.if-len-ge4.false);
       right =
           made_right (numbers_of c.args.self.now.engine)
-          (crank_of (record { number = c.args.number; share = c.in-ok-share.share; card = c.in-ok-card.card }))
+          (crank_of (record { number = c.args.number; share = c.in_ok-share.share; card = c.in_ok-card.card }))
           (record { angle = c.args.angle; modes = c.args.modes.now; bands = c.args.bands.now }) made.made made.refusal;
     }

@@ -5,8 +5,8 @@ use Rattle.deck.proofs.Rights.{crank_right}
 use Rattle.deck.proofs.Seen.{crank_seen}
 use Rattle.deck.proofs.deck.Deck.crank_task.Goals as goal
 
-pub invariant-of-bands : goal.invariant-of-bands
-invariant-of-bands c =
+pub invariant_of-bands : goal.invariant_of-bands
+invariant_of-bands c =
     let right = crank_right c.args.self.now c.args.at c.index-self-at.result c.requires in
     (right.0, (right.1, (right.2, tt)))
 

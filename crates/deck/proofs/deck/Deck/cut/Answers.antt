@@ -9,8 +9,8 @@ use Rattle.deck.proofs.Rights.{every_change, cut_card_right}
 use Rattle.deck.proofs.Decks.{crank_change, cranks_kept, crank_in_use, clock_in_use, cut_passes}
 use Rattle.deck.proofs.deck.Deck.cut.Goals as goal
 
-pub invariant-of-self : goal.invariant-of-self
-invariant-of-self c =
+pub invariant_of-self : goal.invariant_of-self
+invariant_of-self c =
     let deck = c.args.self.now in
     let e = numbers_of deck.engine in (
       cranks_kept deck c.cut.new.self _ c.cut.result c.cut.ensures.done

@@ -37,8 +37,8 @@ few_tasks d guest =
 
 -- the totals when the verdict is made
 pub record Summed (g : given.Over) (c : goal.After-over g) : Type 0 where
-  pub grown : Grown (tasks (cards_of c.args.self.now) (g.G.Task.graph c.args.guest.now)) c.args.horizon c.clear.new.totals c.add-task.new.totals
-  pub summed : (t : ℕ) → t ≤ c.args.horizon → Total (tasks (cards_of c.args.self.now) (g.G.Task.graph c.args.guest.now)) t (get_or c.add-task.new.totals t 0)
+  pub grown : Grown (tasks (cards_of c.args.self.now) (g.G.Task.graph c.args.guest.now)) c.args.horizon c.clear.new.totals c.add_task.new.totals
+  pub summed : (t : ℕ) → t ≤ c.args.horizon → Total (tasks (cards_of c.args.self.now) (g.G.Task.graph c.args.guest.now)) t (get_or c.add_task.new.totals t 0)
   pub says : Says c.over.result (tasks (cards_of c.args.self.now) (g.G.Task.graph c.args.guest.now)) c.args.horizon
 
 sums : (g : given.Over) (c : goal.After-over g) → Summed g c
@@ -49,17 +49,17 @@ sums g c =
     let horizon = c.args.horizon in
     let one = map (crank_graph e) (cranks_in deck.cranks) in
     let two = map (clock_graph e) (clocks_in deck.timeds) in
-    let lent = lent_fits horizon (length c.args.work.now) (length c.args.totals.now) c.in-ok-check-lent.ensures in
+    let lent = lent_fits horizon (length c.args.work.now) (length c.args.totals.now) c.in_ok-check_lent.ensures in
     let grown =
-    grown_then (one ++ two) (guest ∷ []) horizon c.clear.new.totals c.add-timeds.new.totals c.add-task.new.totals
-    (grown_then one two horizon c.clear.new.totals c.add-cranks.new.totals c.add-timeds.new.totals c.add-cranks.ensures.sums c.add-timeds.ensures.sums)
-    c.add-task.ensures.sums
+    grown_then (one ++ two) (guest ∷ []) horizon c.clear.new.totals c.add_timeds.new.totals c.add_task.new.totals
+    (grown_then one two horizon c.clear.new.totals c.add_cranks.new.totals c.add_timeds.new.totals c.add_cranks.ensures.sums c.add_timeds.ensures.sums)
+    c.add_task.ensures.sums
     in
-    let summed = summed_from (tasks (cards_of deck) guest) horizon c.clear.new.totals c.add-task.new.totals (few_tasks deck guest) lent.most c.clear.ensures.cleared grown in
+    let summed = summed_from (tasks (cards_of deck) guest) horizon c.clear.new.totals c.add_task.new.totals (few_tasks deck guest) lent.most c.clear.ensures.cleared grown in
     record {
       grown = grown;
       summed = summed;
-      says = says_from (tasks (cards_of deck) guest) horizon c.add-task.new.totals summed c.over.result c.over.ensures;
+      says = says_from (tasks (cards_of deck) guest) horizon c.add_task.new.totals summed c.over.result c.over.ensures;
     }
 
 pub returns : goal.returns
@@ -69,14 +69,14 @@ returns g c =
     let guest = c.args.guest.now in
     let cells = 24 * (c.args.horizon + 1) in
     record {
-      refusal = c.in-ok-check-lent.ensures;
+      refusal = c.in_ok-check_lent.ensures;
       judged = record {
         summed = all.summed;
         beyond = λ t h. all.grown.beyond t h ∙ c.clear.ensures.beyond t h;
         spare =
-            spared_then cells c.args.work.now c.add-timeds.new.work c.add-task.new.work
-            (spared_then cells c.args.work.now c.add-cranks.new.work c.add-timeds.new.work c.add-cranks.ensures.spare c.add-timeds.ensures.spare)
-            c.add-task.ensures.spare;
+            spared_then cells c.args.work.now c.add_timeds.new.work c.add_task.new.work
+            (spared_then cells c.args.work.now c.add_cranks.new.work c.add_timeds.new.work c.add_cranks.ensures.spare c.add_timeds.ensures.spare)
+            c.add_task.ensures.spare;
         says = all.says;
       };
       runs =

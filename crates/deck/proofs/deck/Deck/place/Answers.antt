@@ -8,11 +8,11 @@ pub returns-in-Some-find : goal.returns-in-Some-find
 returns-in-Some-find c =
     let deck = c.args.self.now in
     let at = c.in-Some-find.ensures in
-    (lacks_seen crank_of (λ x. x.number) c.args.number _ (take deck.cranks.used deck.cranks.table) c.from-key.ensures c.in-default.ensures, (at.0, subst (λ k. First (λ x. x.number) k deck.timeds.table c.in-Some-find.at) c.from-key.ensures at.1))
+    (lacks_seen crank_of (λ x. x.number) c.args.number _ (take deck.cranks.used deck.cranks.table) c.from-key.ensures c.in_default.ensures, (at.0, subst (λ k. First (λ x. x.number) k deck.timeds.table c.in-Some-find.at) c.from-key.ensures at.1))
 
 pub returns-in-None : goal.returns-in-None
 returns-in-None c =
     let deck = c.args.self.now in (
-      lacks_seen crank_of (λ x. x.number) c.args.number _ (take deck.cranks.used deck.cranks.table) c.from-key.ensures c.in-default.ensures,
+      lacks_seen crank_of (λ x. x.number) c.args.number _ (take deck.cranks.used deck.cranks.table) c.from-key.ensures c.in_default.ensures,
       lacks_seen clock_of (λ x. x.number) c.args.number _ (take deck.timeds.used deck.timeds.table) c.from-key.ensures c.in-None.ensures,
     )

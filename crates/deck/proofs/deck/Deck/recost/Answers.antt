@@ -10,8 +10,8 @@ use Rattle.deck.proofs.Rights.{every_change, recosted_right}
 use Rattle.deck.proofs.Decks.{crank_change, clock_change, cranks_kept, crank_in_use, clock_in_use, recost_passes, crank_some}
 use Rattle.deck.proofs.deck.Deck.recost.Goals as goal
 
-pub invariant-of-self : goal.invariant-of-self
-invariant-of-self c =
+pub invariant_of-self : goal.invariant_of-self
+invariant_of-self c =
     let deck = c.args.self.now in
     let e = numbers_of deck.engine in (
       cranks_kept deck c.recost.new.self _ c.recost.result c.recost.ensures.done

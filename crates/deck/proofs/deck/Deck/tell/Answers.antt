@@ -13,13 +13,13 @@ returns-in-Crank g c =
     let at = c.in-Crank.ensures in
     record {
       refusal =
-          c.greatest-walk-in-Crank.ensures.refusal
+          c.greatest_walk-in-Crank.ensures.refusal
           ∙ tell_passes (cards_of deck) n c.args.window (length c.args.work.now) (length c.args.jobs.now) (crank_in_use deck n c.in-Crank.at at);
       told =
-          told_as _ _ c.args.window c.args.jobs.now _ _ c.greatest-walk-in-Crank.result
-          (crank_told deck _ (g.G.Task.graph c.args.guest.now) n c.in-Crank.at (ne_eqb n 0 c.if-number-eq0.false) at c.crank-task.ensures)
-          c.greatest-walk-in-Crank.ensures.told;
-      spare = c.greatest-walk-in-Crank.ensures.spare;
+          told_as _ _ c.args.window c.args.jobs.now _ _ c.greatest_walk-in-Crank.result
+          (crank_told deck _ (g.G.Task.graph c.args.guest.now) n c.in-Crank.at (ne_eqb n 0 c.if-number-eq0.false) at c.crank_task.ensures)
+          c.greatest_walk-in-Crank.ensures.told;
+      spare = c.greatest_walk-in-Crank.ensures.spare;
     }
 
 -- src/telling.rt:30:5
@@ -30,11 +30,11 @@ returns-in-Timed g c =
     let at = c.in-Timed.ensures in
     record {
       refusal =
-          c.greatest-walk-in-Timed.ensures.refusal
+          c.greatest_walk-in-Timed.ensures.refusal
           ∙ tell_passes (cards_of deck) n c.args.window (length c.args.work.now) (length c.args.jobs.now) (clock_in_use deck n c.in-Timed.at at.1);
       told =
-          told_as _ _ c.args.window c.args.jobs.now _ _ c.greatest-walk-in-Timed.result
-          (clock_told deck _ (g.G.Task.graph c.args.guest.now) n c.in-Timed.at (ne_eqb n 0 c.if-number-eq0.false) at.0 at.1 c.timed-task.ensures)
-          c.greatest-walk-in-Timed.ensures.told;
-      spare = c.greatest-walk-in-Timed.ensures.spare;
+          told_as _ _ c.args.window c.args.jobs.now _ _ c.greatest_walk-in-Timed.result
+          (clock_told deck _ (g.G.Task.graph c.args.guest.now) n c.in-Timed.at (ne_eqb n 0 c.if-number-eq0.false) at.0 at.1 c.timed_task.ensures)
+          c.greatest_walk-in-Timed.ensures.told;
+      spare = c.greatest_walk-in-Timed.ensures.spare;
     }

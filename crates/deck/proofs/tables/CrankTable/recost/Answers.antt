@@ -23,11 +23,11 @@ returns-then-index-len c =
       done = refl;
     }
 
-pub returns-then-not-cost-right : goal.returns-then-not-cost-right
-returns-then-not-cost-right c =
+pub returns-then-not-cost_right : goal.returns-then-not-cost_right
+returns-then-not-cost_right c =
     let n = counted c.args.self.now c.args.number c.args.at c.index-self-at.result c.requires in
     record {
-      refusal = wrong_cost (find_by (λ x. x.number) c.args.number (cranks_in c.args.self.now)) c.args.index c.args.cost (omega (arith, c.len.ensures, c.from-index.ensures, c.if-index-len.false)) (sym c.if-not-cost-right.ensures);
+      refusal = wrong_cost (find_by (λ x. x.number) c.args.number (cranks_in c.args.self.now)) c.args.index c.args.cost (omega (arith, c.len.ensures, c.from-index.ensures, c.if-index-len.false)) (sym c.if-not-cost_right.ensures);
       done = refl;
     }
 
@@ -38,7 +38,7 @@ returns c =
     let card = get_or held.table c.args.at d in
     let n = counted held c.args.number c.args.at c.index-self-at.result c.requires in
     record {
-      refusal = recost_fine (find_by (λ x. x.number) c.args.number (cranks_in c.args.self.now)) c.args.index c.args.cost (omega (arith, c.len.ensures, c.from-index.ensures, c.if-index-len.false)) (sym c.if-not-cost-right.ensures);
+      refusal = recost_fine (find_by (λ x. x.number) c.args.number (cranks_in c.args.self.now)) c.args.index c.args.cost (omega (arith, c.len.ensures, c.from-index.ensures, c.if-index-len.false)) (sym c.if-not-cost_right.ensures);
       done =
           crank_stored held c.args.number c.args.at _ d (crank_recosted c.args.index c.args.cost) c.requires
           (ap (λ ms. record { number = card.number; share = card.share.thousandths; parts = record { angle = card.card.angle; modes = ms; bands = bands_of card.card } })

@@ -5,24 +5,24 @@ use Rattle.plan.proofs.Kept.{kept_none, kept_same, same_draft}
 use Rattle.plan.proofs.Carried.{done_carries, refused_carries}
 use Rattle.plan.proofs.drafted.Draft.cut.Goals as goal
 
-pub invariant-of-self : goal.invariant-of-self
-invariant-of-self c =
+pub invariant_of-self : goal.invariant_of-self
+invariant_of-self c =
     let draft = c.args.self.now in
-    (kept_same draft.deck c.cut.new.self draft.mark c.in-err-cut.ensures.done draft.kept, tt)
+    (kept_same draft.deck c.cut.new.self draft.mark c.in_err-cut.ensures.done draft.kept, tt)
 
-pub returns-in-err-cut : goal.returns-in-err-cut
-returns-in-err-cut c =
+pub returns-in_err-cut : goal.returns-in_err-cut
+returns-in_err-cut c =
     let draft = c.args.self.now in
-    let told = c.in-err-cut.ensures in
+    let told = c.in_err-cut.ensures in
     let p = err_from_is_err_and c.from-residual.result c.from-residual.ensures.1 in
     let same = same_draft draft c.cut.new.self _ told.done in
     rw (p.1, p.2) (record { refusal = told.refusal; done = same; history = refused_carries (stands draft) _ _ _ told.refusal (ap stands same) })
 
-pub invariant-of-self-2 : goal.invariant-of-self-2
-invariant-of-self-2 c = (kept_none c.cut.new.self, tt)
+pub invariant_of-self-2 : goal.invariant_of-self-2
+invariant_of-self-2 c = (kept_none c.cut.new.self, tt)
 
 pub returns : goal.returns
 returns c =
-    let told = c.in-ok-cut.ensures in
+    let told = c.in_ok-cut.ensures in
     let done = ap changed told.done in
     record { refusal = told.refusal; done = done; history = done_carries (stands c.args.self.now) _ _ told.refusal done }

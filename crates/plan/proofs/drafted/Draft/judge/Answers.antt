@@ -6,21 +6,21 @@ use Rattle.plan.proofs.Kept.{Kept, kept_judged}
 use Rattle.plan.proofs.Carried.{judge_carries}
 use Rattle.plan.proofs.drafted.Draft.judge.Goals as goal
 
-pub invariant-of-self : goal.invariant-of-self
-invariant-of-self g c =
+pub invariant_of-self : goal.invariant_of-self
+invariant_of-self g c =
     let deck = c.args.self.now.deck in
     let guest = c.args.guest.now in
-    let told = c.in-ok-verdict.ensures in (
+    let told = c.in_ok-verdict.ensures in (
       subst (Kept deck) (sym c.mark-self.ensures)
-          (kept_judged deck (g.G.Task.graph guest) c.args.horizon (g.met.G.Task.lawful guest) c.in-ok-verdict.verdict told.judged.says),
+          (kept_judged deck (g.G.Task.graph guest) c.args.horizon (g.met.G.Task.lawful guest) c.in_ok-verdict.verdict told.judged.says),
       tt,
     )
 
-pub returns-in-err-verdict : goal.returns-in-err-verdict
-returns-in-err-verdict g c =
+pub returns-in_err-verdict : goal.returns-in_err-verdict
+returns-in_err-verdict g c =
     let draft = c.args.self.now in
     let guest = c.args.guest.now in
-    let told = c.in-err-verdict.ensures in
+    let told = c.in_err-verdict.ensures in
     let p = err_from_is_err_and c.from-residual.result c.from-residual.ensures.1 in
     rw (p.1, p.2) (record {
       refusal = told.refusal;
@@ -34,13 +34,13 @@ pub returns : goal.returns
 returns g c =
     let draft = c.args.self.now in
     let guest = c.args.guest.now in
-    let told = c.in-ok-verdict.ensures in
+    let told = c.in_ok-verdict.ensures in
     record {
       refusal = told.refusal;
       judged = told.judged;
       runs = told.runs;
       marked = (refl, c.mark-self.ensures);
       history =
-          judge_carries (stands draft) _ (g.G.Task.graph guest) (g.met.G.Task.lawful guest) c.args.horizon _ _ (Ok c.in-ok-verdict.verdict) told.refusal
+          judge_carries (stands draft) _ (g.G.Task.graph guest) (g.met.G.Task.lawful guest) c.args.horizon _ _ (Ok c.in_ok-verdict.verdict) told.refusal
           (told.judged.says, ap (λ m. record { cards = cards_of draft.deck; mark = m }) c.mark-self.ensures);
     }

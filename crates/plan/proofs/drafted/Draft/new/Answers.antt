@@ -5,8 +5,8 @@ use Rattle.plan.proofs.Kept.{kept_none}
 use Rattle.plan.proofs.Histories.{new_reached}
 use Rattle.plan.proofs.drafted.Draft.new.Goals as goal
 
-pub invariant-of-result : goal.invariant-of-result
-invariant-of-result c = (kept_none c.new.result, tt)
+pub invariant_of-result : goal.invariant_of-result
+invariant_of-result c = (kept_none c.new.result, tt)
 
 pub returns : goal.returns
 returns c =

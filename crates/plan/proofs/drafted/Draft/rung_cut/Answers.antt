@@ -5,24 +5,24 @@ use Rattle.plan.proofs.Kept.{kept_none, kept_same, same_draft}
 use Rattle.plan.proofs.Carried.{done_carries, refused_carries}
 use Rattle.plan.proofs.drafted.Draft.rung_cut.Goals as goal
 
-pub invariant-of-self : goal.invariant-of-self
-invariant-of-self c =
+pub invariant_of-self : goal.invariant_of-self
+invariant_of-self c =
     let draft = c.args.self.now in
-    (kept_same draft.deck c.rung-cut.new.self draft.mark c.in-err-rung-cut.ensures.done draft.kept, tt)
+    (kept_same draft.deck c.rung_cut.new.self draft.mark c.in_err-rung_cut.ensures.done draft.kept, tt)
 
-pub returns-in-err-rung-cut : goal.returns-in-err-rung-cut
-returns-in-err-rung-cut c =
+pub returns-in_err-rung_cut : goal.returns-in_err-rung_cut
+returns-in_err-rung_cut c =
     let draft = c.args.self.now in
-    let told = c.in-err-rung-cut.ensures in
+    let told = c.in_err-rung_cut.ensures in
     let p = err_from_is_err_and c.from-residual.result c.from-residual.ensures.1 in
-    let same = same_draft draft c.rung-cut.new.self _ told.done in
+    let same = same_draft draft c.rung_cut.new.self _ told.done in
     rw (p.1, p.2) (record { refusal = told.refusal; done = same; history = refused_carries (stands draft) _ _ _ told.refusal (ap stands same) })
 
-pub invariant-of-self-2 : goal.invariant-of-self-2
-invariant-of-self-2 c = (kept_none c.rung-cut.new.self, tt)
+pub invariant_of-self-2 : goal.invariant_of-self-2
+invariant_of-self-2 c = (kept_none c.rung_cut.new.self, tt)
 
 pub returns : goal.returns
 returns c =
-    let told = c.in-ok-rung-cut.ensures in
+    let told = c.in_ok-rung_cut.ensures in
     let done = ap changed told.done in
     record { refusal = told.refusal; done = done; history = done_carries (stands c.args.self.now) _ _ told.refusal done }

@@ -10,7 +10,7 @@ returns-then-ends c =
     let told = c.in-Err.ensures in
     record {
       turn =
-          subst (λ l. Took (state_of c.args.self.now) c.args.at c.args.record (stands c.carry.new.self.plan) (Ends (Some l))) (sym c.line-of.ensures)
+          subst (λ l. Took (state_of c.args.self.now) c.args.at c.args.record (stands c.carry.new.self.plan) (Ends (Some l))) (sym c.line_of.ensures)
           (took_end (state_of c.args.self.now) c.args.at c.args.record (stands c.carry.new.self.plan) c.in-Err.fault told.carried (sym c.if-ends.ensures));
       card = told.card;
       reader = told.reader;

@@ -8,8 +8,8 @@ use Rattle.weighing.specs.Turns.{state_of, PrintsOn, Turned, Took, last_line}
 use Rattle.weighing.proofs.Turning.{read, after, turned, end_prints}
 use Rattle.weighing.proofs.state.Run.turn.Goals as goal
 
-pub returns-in-ok-note : goal.returns-in-ok-note
-returns-in-ok-note c =
+pub returns-in_ok-note : goal.returns-in_ok-note
+returns-in_ok-note c =
     let run = c.args.self.now in
     let x = state_of run in
     let r = c.in-Some.record in
@@ -19,7 +19,7 @@ returns-in-ok-note c =
     let state = told.state ∙ ap (λ o. state_after x.open_now (Ok o)) c.in-Some.is in
     let s' = stands c.taken.new.self.plan in
     let here = sym told.what ∙ ap (λ o. Ok o) c.in-Some.is in
-    let card = c.in-ok-note.ensures ∙ ap (λ at. noted x.card at r) c.at-at.ensures in
+    let card = c.in_ok-note.ensures ∙ ap (λ at. noted x.card at r) c.at-at.ensures in
     let before : state_of (record { reader = c.next.new.self; plan = run.plan; card = c.note.new.self }) ≡ read bytes x r s' here =
     λ i. record { plan = x.plan; card = card i; open_now = state i; at = place i }
     in
@@ -48,7 +48,7 @@ returns-in-None c =
     let state = told.state ∙ ap (λ o. state_after x.open_now (Ok o)) c.in-None.is in
     record {
       turned =
-          subst (λ l. PrintsOn run.reader.bytes.now x (option_to_list l)) (sym (c.last-line.ensures ∙ ap (λ o. last_line o x.card) state))
+          subst (λ l. PrintsOn run.reader.bytes.now x (option_to_list l)) (sym (c.last_line.ensures ∙ ap (λ o. last_line o x.card) state))
           (end_prints run.reader.bytes.now x.plan x.card x.open_now x.at (sym told.what ∙ ap (λ o. Ok o) c.in-None.is));
       bytes = c.next.ensures.bytes;
     }
@@ -60,7 +60,7 @@ returns-in-Err c =
     let told = c.in-Err.ensures in
     record {
       turned =
-          subst (λ l. PrintsOn run.reader.bytes.now x (l ∷ [])) (sym c.line-of.ensures)
+          subst (λ l. PrintsOn run.reader.bytes.now x (l ∷ [])) (sym c.line_of.ensures)
           (faulty x.plan x.card x.open_now x.at c.in-Err.fault (sym told.what));
       bytes = c.next.ensures.bytes;
     }

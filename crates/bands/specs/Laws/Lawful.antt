@@ -2,12 +2,12 @@
 use Rattle.std.proofs.Common.{◌≡◌, ℕ, ◌≤◌, sym, refl, subst, arith}
 use Rattle.std.proofs.lemmas.Bool.{cond-true, cond_both}
 use Rattle.engine.specs.Views.{Numbers, Parts}
-use Rattle.bands.proofs.Ready.{Ready}
+use Rattle.bands.specs.Laws.Ready.{Ready}
 use Rattle.task.specs.Graph.{Lawful}
 use Rattle.bands.specs.Graphs.{lower_end, upper_end, band_here, cost_between, band_cost, GreatestCost, band_deadline, bands_graph}
-use Rattle.bands.proofs.Ends.{BandAt, card_few}
-use Rattle.bands.proofs.Costs.{band_cost_least, band_cost_most, cost_greatest}
-use Rattle.bands.proofs.Leaving.{here_true, true_here, gap_is, gap_none_from, deadline_none, deadline_least}
+use Rattle.bands.specs.Laws.Ends.{BandAt, card_few}
+use Rattle.bands.specs.Laws.Costs.{band_cost_least, band_cost_most, cost_greatest}
+use Rattle.bands.specs.Laws.Leaving.{here_true, true_here, gap_is, gap_none_from, deadline_none, deadline_least}
 
 pub cost_at : (e : Numbers) (c : Parts) (p : ℕ) → BandAt c p → band_cost e c p ≡ cost_between e.greatest (lower_end c p) (upper_end e c p) c.modes
 cost_at e c p h =

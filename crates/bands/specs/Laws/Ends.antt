@@ -4,7 +4,7 @@ use Rattle.std.proofs.lemmas.List.{get_or_default}
 use Rattle.std.proofs.lemmas.Bool.{false≢true, ltb-true, leb-true, eqb-true, and_parts}
 use Rattle.engine.specs.Limits.{rising, speeds_ok}
 use Rattle.engine.specs.Views.{Numbers, Parts}
-use Rattle.bands.proofs.Ready.{Ready}
+use Rattle.bands.specs.Laws.Ready.{Ready}
 use Rattle.bands.specs.Graphs.{lower_end, upper_end, pair_at}
 use Rattle.bands.specs.Rules.{Fits}
 

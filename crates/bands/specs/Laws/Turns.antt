@@ -8,12 +8,12 @@ use Rattle.bands.specs.Gaps.{Pair, square, has_gap, rule_1, rule_2, allows, GapB
 use Rattle.bands.specs.Graphs.{upper_end, pair_at, band_gap}
 use Rattle.bands.specs.Rules.{Fits}
 use Rattle.bands.specs.Turns.{pairs, end_speed, Turn, InBand, Leads}
-use Rattle.bands.proofs.Ready.{Ready}
-use Rattle.bands.proofs.Ends.{BandAt, pair_fits}
-use Rattle.bands.proofs.Rules.{by_rules}
-use Rattle.bands.proofs.Leaving.{gap_by_rules}
-use Rattle.bands.proofs.TurnsArith.{Peak, steady_turn, peaked_turn, capped_turn, passing, high_peak, low_peak, rise_part, fall_part, from_rise, from_fall, finer_squares, out_of_reach}
-use Rattle.bands.proofs.TurnsSpeeds.{end_above, end_below, sum_rising, sum_falling, greatest_of, peak_sum, Among}
+use Rattle.bands.specs.Laws.Ready.{Ready}
+use Rattle.bands.specs.Laws.Ends.{BandAt, pair_fits}
+use Rattle.bands.specs.Laws.Rules.{by_rules}
+use Rattle.bands.specs.Laws.Leaving.{gap_by_rules}
+use Rattle.bands.specs.Laws.TurnsArith.{Peak, steady_turn, peaked_turn, capped_turn, passing, high_peak, low_peak, rise_part, fall_part, from_rise, from_fall, finer_squares, out_of_reach}
+use Rattle.bands.specs.Laws.TurnsSpeeds.{end_above, end_below, sum_rising, sum_falling, greatest_of, peak_sum, Among}
 
 -- What a turn between a pair of bands has: n steps that sum to S, from the speed v to the speed w with the greatest
 -- speed p.

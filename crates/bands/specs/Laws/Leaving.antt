@@ -2,12 +2,12 @@
 use Rattle.std.proofs.Common.{◌≡◌, ℕ, zero, suc, ◌+◌, ◌≤◌, min, true, ◌&&◌, ltb, leb, length, Some, None, Option, unwrap_or, sym, refl, ap, ◌∙◌, subst, ⊎_elim, add-one, arith}
 use Rattle.std.proofs.lemmas.Bool.{leb-true, le-leb, le-ltb, and_parts, and_from, cond-true, cond-false, cond_both, cases_lt, cases_Bool, both_ways}
 use Rattle.engine.specs.Views.{Numbers, Parts}
-use Rattle.bands.proofs.Ready.{Ready}
+use Rattle.bands.specs.Laws.Ready.{Ready}
 use Rattle.task.specs.Walks.{ticks}
 use Rattle.bands.specs.Gaps.{has_gap, IsGap, GapByRules, gap_value}
 use Rattle.bands.specs.Graphs.{pair_at, band_here, band_gap, LeastGap, lesser, least_leaving, band_deadline}
-use Rattle.bands.proofs.Ends.{BandAt, pair_fits}
-use Rattle.bands.proofs.Rules.{value_by_rules}
+use Rattle.bands.specs.Laws.Ends.{BandAt, pair_fits}
+use Rattle.bands.specs.Laws.Rules.{value_by_rules}
 
 some_not_none : (d : ℕ) → ◌≡◌ {A = Option ℕ} (Some d) None → ⊥
 some_not_none d e = let z : ◌≡◌ {A = ℕ} 0 1 = cc in omega arith

@@ -4,7 +4,7 @@ use native.Mathlib.Nat.{mul-div-le, lt-mul-div-succ}
 use Rattle.std.proofs.lemmas.Bool.{cases_lt, cases_order, leb-true, leb-false, le-leb, lt-leb, lt-ltb, and_parts, cond-true, cond-false, cond_both, both_ways, cases_Bool, and_cases}
 use Rattle.bands.specs.Gaps.{Pair, square, has_gap, rule_1, rule_2, rule_3, peak, allows, IsGap, GapByRules, greatest_upto, gap_value, allows_1, allows_2, allows_3, allows_4}
 use Rattle.bands.specs.Rules.{Last, Fits}
-use Rattle.bands.proofs.Squares.{steady_most, steady_one, near, peaked_most, peaked_one, capped_most, capped_one}
+use Rattle.bands.specs.Laws.Squares.{steady_most, steady_one, near, peaked_most, peaked_one, capped_most, capped_one}
 
 -- whatever holds of the first rule that applies holds of the gap's test
 pub by_rules : (x : Pair) (T : ℕ) (P : Bool → Type 0) → (rule_1 x ≡ true → P (allows_1 x T)) → (rule_1 x ≡ false → rule_2 x ≡ true → P (allows_2 x T)) → (rule_1 x ≡ false → rule_2 x ≡ false → rule_3 x ≡ true → P (allows_3 x T)) → (rule_1 x ≡ false → rule_2 x ≡ false → rule_3 x ≡ false → P (allows_4 x T)) → P (allows x T)

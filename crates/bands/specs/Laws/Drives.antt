@@ -10,9 +10,9 @@ use Rattle.engine.specs.Views.{Numbers, Parts}
 use Rattle.bands.specs.Graphs.{lower_end, upper_end, InRange, mode_at, mode_end, next_lower, Meets, band_deadline, bands_graph}
 use Rattle.bands.specs.Turns.{Turn, InBand, end_speed}
 use Rattle.bands.specs.Drives.{InMode, Drive, Releases, BandsLists, ReleasesJudged, DrivesJudged}
-use Rattle.bands.proofs.Ready.{Ready}
-use Rattle.bands.proofs.Lawful.{cost_is}
-use Rattle.bands.proofs.Turns.{no_turn_beats_its_gap}
+use Rattle.bands.specs.Laws.Ready.{Ready}
+use Rattle.bands.specs.Laws.Lawful.{cost_is}
+use Rattle.bands.specs.Laws.Turns.{no_turn_beats_its_gap}
 
 -- a k-fold below a k-fold
 k_below : (k a b : ℕ) → k * a < k * b → a < b

@@ -5,9 +5,9 @@ use Rattle.std.proofs.lemmas.Bool.{false≢true, ltb-true, lt-ltb, leb-true, eqb
 use Rattle.engine.specs.declared.card.Mode.{Mode}
 use Rattle.engine.specs.Limits.{cost_ok, rising, speeds_ok, every}
 use Rattle.engine.specs.Views.{Numbers, Parts}
-use Rattle.bands.proofs.Ready.{Ready}
+use Rattle.bands.specs.Laws.Ready.{Ready}
 use Rattle.bands.specs.Graphs.{lower_end, upper_end, InRange, next_lower, mode_at, mode_end, Meets, GreatestCost, has_shared_speed, cost_between}
-use Rattle.bands.proofs.Ends.{BandAt, card_ends, band_widens, band_least}
+use Rattle.bands.specs.Laws.Ends.{BandAt, card_ends, band_widens, band_least}
 
 -- the range of the k-th mode shares a speed with the one from low to high
 abbrev shares : ℕ → ℕ → ℕ → List Mode → ℕ → Bool

@@ -4,7 +4,7 @@ use Rattle.std.specs.List.{AllByRecursion as All}
 use Rattle.std.proofs.lemmas.Bool.{cases_lt}
 use Rattle.bands.specs.Gaps.{square}
 use Rattle.bands.specs.Turns.{Changes, pairs, end_speed}
-use Rattle.bands.proofs.TurnsArith.{step_square, step_peak}
+use Rattle.bands.specs.Laws.TurnsArith.{step_square, step_peak}
 
 -- ---- how far the last speed is from the first
 pub end_above : (A D v : ℕ) (ws : List ℕ) → Changes A D v ws → square (end_speed v ws) ≤ square v + A * pairs v ws
