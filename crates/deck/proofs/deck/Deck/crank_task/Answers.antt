@@ -8,7 +8,7 @@ use Rattle.deck.proofs.deck.Deck.crank_task.Goals as goal
 pub invariant_of-bands : goal.invariant_of-bands
 invariant_of-bands c =
     let right = crank_right c.args.self.now c.args.at c.index-self-at.result c.requires in
-    (right.0, (right.1, (right.2, tt)))
+    record { angled = right.0; moded = right.1; banded = right.2 }
 
 pub returns : goal.returns
 returns c d =

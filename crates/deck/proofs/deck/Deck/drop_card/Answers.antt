@@ -12,10 +12,7 @@ use Rattle.deck.proofs.deck.Deck.drop_card.Goals as goal
 pub invariant_of-self : goal.invariant_of-self
 invariant_of-self c =
     let deck = c.args.self.now in
-    let test = right_card (numbers_of deck.engine) in (
-      subst (λ l. every test l ≡ true) (sym c.take_out.ensures) (every_without test (λ x. x.number) c.args.number (cranks_in deck.cranks) deck.right),
-      tt,
-    )
+    let test = right_card (numbers_of deck.engine) in record { right = subst (λ l. every test l ≡ true) (sym c.take_out.ensures) (every_without test (λ x. x.number) c.args.number (cranks_in deck.cranks) deck.right) }
 
 pub returns-in-Crank : goal.returns-in-Crank
 returns-in-Crank c =

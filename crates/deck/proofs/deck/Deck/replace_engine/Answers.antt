@@ -9,4 +9,4 @@ pub invariant_of-self : goal.invariant_of-self
 invariant_of-self c =
     let deck = c.args.self.now in
     let none = and_parts (eqb (length (cranks_in deck.cranks)) 0) (eqb (length (clocks_in deck.timeds)) 0) (not-false _ c.requires) in
-    (every_none (right_card (numbers_of c.args.engine)) (cranks_in deck.cranks) (eqb-true _ 0 none.0), tt)
+    record { right = every_none (right_card (numbers_of c.args.engine)) (cranks_in deck.cranks) (eqb-true _ 0 none.0) }
