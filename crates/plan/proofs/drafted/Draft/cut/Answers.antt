@@ -8,18 +8,18 @@ use Rattle.plan.proofs.drafted.Draft.cut.Goals as goal
 pub invariant_of-self : goal.invariant_of-self
 invariant_of-self c =
     let draft = c.args.self.now in
-    (kept_same draft.deck c.cut.new.self draft.mark c.in_err-cut.ensures.done draft.kept, tt)
+    record { kept = kept_same draft.deck c.cut.new.self draft.mark c.in_err-cut.ensures.done draft.kept }
 
 pub returns-in_err-cut : goal.returns-in_err-cut
 returns-in_err-cut c =
     let draft = c.args.self.now in
     let told = c.in_err-cut.ensures in
-    let p = err_from_is_err_and c.from-residual.result c.from-residual.ensures.1 in
+    let p = err_from_is_err_and c.from_residual.result c.from_residual.ensures.1 in
     let same = same_draft draft c.cut.new.self _ told.done in
     rw (p.1, p.2) (record { refusal = told.refusal; done = same; history = refused_carries (stands draft) _ _ _ told.refusal (ap stands same) })
 
 pub invariant_of-self-2 : goal.invariant_of-self-2
-invariant_of-self-2 c = (kept_none c.cut.new.self, tt)
+invariant_of-self-2 c = record { kept = kept_none c.cut.new.self }
 
 pub returns : goal.returns
 returns c =

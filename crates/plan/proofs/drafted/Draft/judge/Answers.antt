@@ -10,18 +10,16 @@ pub invariant_of-self : goal.invariant_of-self
 invariant_of-self g c =
     let deck = c.args.self.now.deck in
     let guest = c.args.guest.now in
-    let told = c.in_ok-verdict.ensures in (
+    let told = c.in_ok-verdict.ensures in record { kept =
       subst (Kept deck) (sym c.mark-self.ensures)
-          (kept_judged deck (g.G.Task.graph guest) c.args.horizon (g.met.G.Task.lawful guest) c.in_ok-verdict.verdict told.judged.says),
-      tt,
-    )
+          (kept_judged deck (g.G.Task.graph guest) c.args.horizon (g.met.G.Task.lawful guest) c.in_ok-verdict.verdict told.judged.says) }
 
 pub returns-in_err-verdict : goal.returns-in_err-verdict
 returns-in_err-verdict g c =
     let draft = c.args.self.now in
     let guest = c.args.guest.now in
     let told = c.in_err-verdict.ensures in
-    let p = err_from_is_err_and c.from-residual.result c.from-residual.ensures.1 in
+    let p = err_from_is_err_and c.from_residual.result c.from_residual.ensures.1 in
     rw (p.1, p.2) (record {
       refusal = told.refusal;
       judged = told.judged;

@@ -6,7 +6,7 @@ use Rattle.plan.proofs.Histories.{new_reached}
 use Rattle.plan.proofs.drafted.Draft.new.Goals as goal
 
 pub invariant_of-result : goal.invariant_of-result
-invariant_of-result c = (kept_none c.new.result, tt)
+invariant_of-result c = record { kept = kept_none c.new.result }
 
 pub returns : goal.returns
 returns c =
