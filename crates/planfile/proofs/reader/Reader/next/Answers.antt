@@ -7,8 +7,8 @@ use Rattle.planfile.specs.Places.{faulted}
 use Rattle.planfile.proofs.Answered.{left, answered, filed_ok, filed_err, read_ok, kind_known}
 use Rattle.planfile.proofs.reader.Reader.next.Goals as goal
 
-pub returns-in_empty : goal.returns-in_empty
-returns-in_empty c =
+pub returns-in-empty : goal.returns-in-empty
+returns-in-empty c =
     let s = c.args.self.now in
     let h : length s.bytes.now ≤ s.at = search rules in
     record {
@@ -18,22 +18,22 @@ returns-in_empty c =
       bytes = refl;
     }
 
-pub returns-in_err-record : goal.returns-in_err-record
-returns-in_err-record c =
+pub returns-in_err-record-in-len1-up : goal.returns-in_err-record-in-len1-up
+returns-in_err-record-in-len1-up c =
     let s = c.args.self.now in
     let h : 0 < length (left s.at s.bytes.now) = search rules in
     let all = answered s.state s.at s.bytes.now c.in-Some.kind c.record_here.result h c.in-Some.ensures c.record_here.ensures in
-    let fault = filed_err _ _ _ c.in_err-record.ensures in
-    let p = err_from_is_err_and c.from-residual.result c.from-residual.ensures.1 in
+    let fault = filed_err _ _ _ c.in_err-record-in-len1-up.ensures in
+    let p = err_from_is_err_and c.from_residual.result c.from_residual.ensures.1 in
     rw (p.1, p.2) record { what = sym fault ∙ all; place = refl; state = refl; bytes = refl }
 
-pub returns-in_ok-record : goal.returns-in_ok-record
-returns-in_ok-record c =
+pub returns-in_ok-record-in-len1-up : goal.returns-in_ok-record-in-len1-up
+returns-in_ok-record-in-len1-up c =
     let s = c.args.self.now in
     let h : 0 < length (left s.at s.bytes.now) = search rules in
     let all = answered s.state s.at s.bytes.now c.in-Some.kind c.record_here.result h c.in-Some.ensures c.record_here.ensures in
-    let found = filed_ok _ _ _ c.in_ok-record.ensures in
-    let read = read_ok _ _ _ _ _ c.record_here.ensures c.in_ok-record.ensures in
+    let found = filed_ok _ _ _ c.in_ok-record-in-len1-up.ensures in
+    let read = read_ok _ _ _ _ _ c.record_here.ensures c.in_ok-record-in-len1-up.ensures in
     let k = kind_known s.state c.in-Some.kind _ _ read in
     record {
       what = sym found ∙ all;
