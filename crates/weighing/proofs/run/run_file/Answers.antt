@@ -21,7 +21,7 @@ loop-run-preserved c =
     in (
       λ rest on.
           subst (Prints bytes new_plan no_card opens.Start 0)
-          (sym (ap (λ l. l ++ rest) c.in_ok-print.ensures ∙ append_assoc items (option_to_list line) rest))
+          (sym (ap (λ l. l ++ rest) c.in_ok-print-in-Goes.ensures ∙ append_assoc items (option_to_list line) rest))
           (inv.0 (option_to_list line ++ rest) (told.0 rest on)),
       c.turn.ensures.bytes ∙ inv.1,
       c.turn.auto.work ∙ inv.2,

@@ -8,8 +8,8 @@ use Rattle.weighing.specs.Turns.{state_of, PrintsOn, Turned, Took, last_line}
 use Rattle.weighing.proofs.Turning.{read, after, turned, end_prints}
 use Rattle.weighing.proofs.state.Run.turn.Goals as goal
 
-pub returns-in_ok-note : goal.returns-in_ok-note
-returns-in_ok-note c =
+pub returns-in_ok-note-in-Some : goal.returns-in_ok-note-in-Some
+returns-in_ok-note-in-Some c =
     let run = c.args.self.now in
     let x = state_of run in
     let r = c.in-Some.record in
@@ -19,7 +19,7 @@ returns-in_ok-note c =
     let state = told.state ∙ ap (λ o. state_after x.open_now (Ok o)) c.in-Some.is in
     let s' = stands c.taken.new.self.plan in
     let here = sym told.what ∙ ap (λ o. Ok o) c.in-Some.is in
-    let card = c.in_ok-note.ensures ∙ ap (λ at. noted x.card at r) c.at-at.ensures in
+    let card = c.in_ok-note-in-Some.ensures ∙ ap (λ at. noted x.card at r) c.at-at.ensures in
     let before : state_of (record { reader = c.next.new.self; plan = run.plan; card = c.note.new.self }) ≡ read bytes x r s' here =
     λ i. record { plan = x.plan; card = card i; open_now = state i; at = place i }
     in
