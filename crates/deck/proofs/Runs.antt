@@ -1,5 +1,5 @@
 -- A verdict about walks is one about every run: the jobs of every run follow the graphs of the cards.
-use Rattle.std.proofs.Common.{◌≡◌, ℕ, ◌+◌, ◌-◌, ◌*◌, ◌≤◌, true, List, [], ◌∷◌, ◌++◌, map, refl, subst, mul-add, arith}
+use Rattle.std.proofs.Common.{◌≡◌, ℕ, ◌+◌, ◌*◌, ◌≤◌, true, List, [], ◌∷◌, ◌++◌, map, refl, subst, mul-add, arith}
 use Rattle.std.proofs.lemmas.Bool.{and_parts}
 use Rattle.task.specs.Graph.{Graph, Lawful}
 use Rattle.task.specs.Walks.{Total}

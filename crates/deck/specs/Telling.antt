@@ -1,11 +1,10 @@
 -- What is told of a window: a greatest walk of one task, job by job.
-use Rattle.std.specs.Prelude.{ℕ, Bool, cond, not, ◌||◌, ◌∷◌, Some, None, Option, ◌==◌}
+use Rattle.std.specs.Prelude.{ℕ, ◌+◌, ◌*◌, Bool, cond, not, ◌&&◌, ◌||◌, [], ◌∷◌, Some, None, Option, ◌==◌, nat_le, nat_lt}
 use Rattle.refusal.specs.declared.Refusal.{Refusal}
-use Rattle.refusal.specs.declared.Refusal.TheVariants.{NoSuchCard}
+use Rattle.refusal.specs.declared.Refusal.TheVariants.{NoSuchCard, HorizonLimits, ShortMemory}
 use Rattle.refusal.specs.Numbers.{first_of, ◌gives◌}
 use Rattle.task.specs.Graph.{Graph}
 use Rattle.engine.specs.Views.{Numbers}
-use Rattle.demand.specs.Told.{walk_checks}
 use Rattle.deck.specs.Tables.{Crank, Clock}
 use Rattle.deck.specs.Cards.{Cards}
 use Rattle.deck.specs.Calls.{crank_at, clock_at, in_use}
@@ -17,7 +16,11 @@ named s n = n == 0 || in_use s n
 
 -- a tell asks for such a number, for a window within limits, and for memory enough
 abbrev pub tell_refused : Cards → ℕ → ℕ → ℕ → ℕ → Option Refusal
-tell_refused s n window work jobs = first_of (not (named s n) gives NoSuchCard ∷ walk_checks window work jobs)
+tell_refused s n window work jobs = first_of (
+    not (named s n) gives NoSuchCard ∷
+    not (nat_le 1 window && nat_le window 20000) gives HorizonLimits ∷
+    (nat_lt work (24 * (window + 1)) || nat_lt jobs window) gives ShortMemory ∷
+    [])
 
 -- the task of a card that was looked up, or another where there is none
 abbrev pub clock_task : Numbers → Option Clock → Graph → Graph

@@ -10,9 +10,9 @@ use engine::engine::Engine;
 // An engine and cards that are right for it.
 #[derive(Clone, Copy)]
 pub struct Deck {
-    pub(crate) engine: Engine,
-    pub(crate) cranks: CrankTable,
-    pub(crate) timeds: TimedTable,
+    pub engine: Engine,
+    pub cranks: CrankTable,
+    pub timeds: TimedTable,
     ghost right: { every (right_card (numbers_of engine)) (cranks_in cranks) ≡ true },
 }
 

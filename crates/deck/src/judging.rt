@@ -9,8 +9,7 @@ ghost use Rattle.deck.specs.Tables.{Crank, Clock, cranks_in, clocks_in};
 ghost use Rattle.deck.specs.Cards.{cards_of};
 ghost use Rattle.deck.specs.Judging.{crank_graph, clock_graph, tasks, Judged, mark_of};
 ghost use Rattle.deck.specs.EveryRun.{Promises};
-ghost use Rattle.deck.specs.Sums.{Grown, Decides};
-ghost use Rattle.demand.specs.Table.{Spared};
+ghost use Rattle.deck.specs.Sums.{Grown, Spared, Decides};
 
 use crate::deck::Deck;
 use crate::verdict::Verdict;

@@ -1,6 +1,6 @@
 // What a judging answers.
 
-#[derive(Clone, Copy)]
+#[derive(Clone, Copy, PartialEq, Eq, Debug)]
 pub enum Verdict {
     // no window up to the horizon demands more than its length
     Fits { horizon: u32 },

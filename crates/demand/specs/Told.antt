@@ -2,20 +2,17 @@
 use Rattle.std.specs.Prelude.{◌≡◌, ℕ, ◌+◌, ◌*◌, not, ◌&&◌, ◌||◌, ◌⊎◌, List, [], ◌∷◌, length, take, drop, Option, nat_le, nat_lt}
 use Rattle.refusal.specs.declared.Refusal.{Refusal}
 use Rattle.refusal.specs.declared.Refusal.TheVariants.{HorizonLimits, ShortMemory}
-use Rattle.refusal.specs.Numbers.{Check, first_of, ◌gives◌}
+use Rattle.refusal.specs.Numbers.{first_of, ◌gives◌}
 use Rattle.task.specs.Graph.{Graph}
 use Rattle.task.specs.Walks.{Inside, ticks, demand_of, Greatest}
 use Rattle.demand.specs.declared.walk.ToldJob.{ToldJob}
 
 -- what is asked of the window and of the memory lent to it
-abbrev pub walk_checks : ℕ → ℕ → ℕ → List Check
-walk_checks window work jobs =
+abbrev pub walk_refusal : ℕ → ℕ → ℕ → Option Refusal
+walk_refusal window work jobs = first_of (
     not (nat_le 1 window && nat_le window 20000) gives HorizonLimits ∷
     (nat_lt work (24 * (window + 1)) || nat_lt jobs window) gives ShortMemory ∷
-    []
-
-abbrev pub walk_refusal : ℕ → ℕ → ℕ → Option Refusal
-walk_refusal window work jobs = first_of (walk_checks window work jobs)
+    [])
 
 -- the job that is released at r at place p
 abbrev pub told_at : Graph → ℕ → ℕ → ToldJob

@@ -12,7 +12,7 @@ use refusal::Refusal;
 use task::interface::Task;
 
 // One job of a told walk.
-#[derive(Clone, Copy)]
+#[derive(Clone, Copy, PartialEq, Eq, Debug)]
 pub struct ToldJob {
     pub place: u32,
     pub release: u32,
@@ -21,7 +21,7 @@ pub struct ToldJob {
 }
 
 // How many jobs were told, and their demand.
-#[derive(Clone, Copy)]
+#[derive(Clone, Copy, PartialEq, Eq, Debug)]
 pub struct Told {
     pub count: u32,
     pub demand: u32,

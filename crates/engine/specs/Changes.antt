@@ -1,8 +1,8 @@
 -- What making and changing an engine card asks, and what it does.
-use Rattle.std.specs.Prelude.{ℕ, zero, suc, Bool, false, not, ◌&&◌, ◌||◌, leb, List, [], ◌∷◌, length, Option, ◌==◌, nat_le, nat_lt}
+use Rattle.std.specs.Prelude.{ℕ, zero, suc, Bool, false, not, ◌&&◌, ◌||◌, List, [], ◌∷◌, length, Option, ◌==◌, nat_le, nat_lt}
 use Rattle.refusal.specs.declared.Refusal.{Refusal}
 use Rattle.refusal.specs.declared.Refusal.TheVariants.{AngleLimits, ModeList, BandList, ValueLimits}
-use Rattle.refusal.specs.Numbers.{Check, first_of, ◌gives◌}
+use Rattle.refusal.specs.Numbers.{first_of, ◌gives◌}
 use Rattle.table.specs.Ordered.{insert_by}
 use Rattle.engine.specs.declared.card.Mode.{Mode}
 use Rattle.engine.specs.Limits.{angle_ok, bands_ok, cost_ok}
@@ -33,12 +33,9 @@ cut_refusal e c speed = first_of (cut_wrong e c speed gives BandList ∷ [])
 abbrev pub cut : Parts → ℕ → Parts
 cut c speed = record { angle = c.angle; modes = c.modes; bands = insert_by (λ b. b) speed c.bands }
 
--- A new cost for one of so many modes, counted from 0: refused where there is no such mode, then where the cost is wrong.
-abbrev pub mode_checks : ℕ → ℕ → ℕ → List Check
-mode_checks count index cost = leb count index gives ModeList ∷ not (cost_ok cost) gives ValueLimits ∷ []
-
+-- A new cost for one mode, counted from 0: refused where there is no such mode, then where the cost is wrong.
 abbrev pub recost_refusal : Parts → ℕ → ℕ → Option Refusal
-recost_refusal c index cost = first_of (mode_checks (length c.modes) index cost)
+recost_refusal c index cost = first_of (nat_le (length c.modes) index gives ModeList ∷ not (cost_ok cost) gives ValueLimits ∷ [])
 
 abbrev pub recosted : List Mode → ℕ → ℕ → List Mode
 recosted [] index cost = []

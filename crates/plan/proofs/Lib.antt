@@ -1,3 +1,4 @@
+mod Checks
 pub mod Kept
 pub mod Apart
 pub mod Counted

@@ -1,7 +1,7 @@
 -- What stands in a plan: its engine, its cards and its mark.
-use Rattle.std.specs.Prelude.{ℕ}
+use Rattle.std.specs.Prelude.{ℕ, []}
+use Rattle.engine.specs.Views.{house_engine}
 use Rattle.deck.specs.Cards.{Cards, cards_of}
-use Rattle.deck.specs.Calls.{new_cards}
 use Rattle.plan.specs.declared.drafted.Draft.{Draft}
 use Rattle.plan.specs.declared.sealed.Sealed.{Sealed}
 
@@ -12,7 +12,7 @@ pub record Standing : Type 0 where
 
 -- a new plan: the house engine, no card, mark 0
 abbrev pub new_plan : Standing
-new_plan = record { cards = new_cards; mark = 0 }
+new_plan = record { cards = record { engine = house_engine; cranks = []; clocks = [] }; mark = 0 }
 
 -- a change sets the mark to 0
 abbrev pub changed : Cards → Standing

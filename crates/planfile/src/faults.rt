@@ -7,7 +7,7 @@ use records::record::Kind;
 use refusal::Refusal;
 
 // A refusal of a record.
-#[derive(Clone, Copy)]
+#[derive(Clone, Copy, PartialEq, Eq, Debug)]
 pub struct RecordFault {
     pub kind: Kind,
     pub card: u8,
@@ -15,7 +15,7 @@ pub struct RecordFault {
 }
 
 // A refusal of a file, with the place of the kind byte; no kind where that byte stands for none.
-#[derive(Clone, Copy)]
+#[derive(Clone, Copy, PartialEq, Eq, Debug)]
 pub struct FileFault {
     pub at: usize,
     pub kind: Option<Kind>,
@@ -24,7 +24,7 @@ pub struct FileFault {
 }
 
 // A fault and what it came up in.
-#[derive(Clone, Copy)]
+#[derive(Clone, Copy, PartialEq, Eq, Debug)]
 pub struct In<C, F> {
     pub context: C,
     pub fault: F,

@@ -5,7 +5,7 @@ ghost use Rattle.planfile.specs.Reading.{in_turn, open_after, opened_by};
 use records::record::{Kind, Record};
 
 // What stands open in a file, which decides what may come next.
-#[derive(Clone, Copy)]
+#[derive(Clone, Copy, PartialEq, Eq, Debug)]
 pub enum Open {
     // before the engine
     Start,

@@ -5,7 +5,7 @@ ghost use Rattle.records.specs.Heads.{head_of};
 use crate::record::{Kind, Record};
 
 // The kind of a record, and its card's number, 0 where it names none.
-#[derive(Clone, Copy)]
+#[derive(Clone, Copy, PartialEq, Eq, Debug)]
 pub struct Head {
     pub kind: Kind,
     pub card: u8,

@@ -1,7 +1,7 @@
 // The records of a plan file.
 
 // The kind of a record, told by its first byte.
-#[derive(Clone, Copy)]
+#[derive(Clone, Copy, PartialEq, Eq, Debug)]
 pub enum Kind {
     Engine,
     Card,
@@ -15,7 +15,7 @@ pub enum Kind {
 }
 
 // A record with its numbers.
-#[derive(Clone, Copy)]
+#[derive(Clone, Copy, PartialEq, Eq, Debug)]
 pub enum Record {
     Engine {
         least: u32,

@@ -5,7 +5,7 @@ ghost use Rattle.weighing.specs.Lines.{line_text};
 use refusal::Refusal;
 use std::fmt;
 
-#[derive(Clone, Copy)]
+#[derive(Clone, Copy, PartialEq, Eq, Debug)]
 pub enum Line {
     // a change was made
     Done,

@@ -12,10 +12,12 @@ use Rattle.deck.proofs.deck.Deck.cut.Goals as goal
 pub invariant_of-self : goal.invariant_of-self
 invariant_of-self c =
     let deck = c.args.self.now in
-    let e = numbers_of deck.engine in record { right = cranks_kept deck c.cut.new.self _ c.cut.result c.cut.ensures.done
+    let e = numbers_of deck.engine in record {
+      right = cranks_kept deck c.cut.new.self _ c.cut.result c.cut.ensures.done
           (λ fine.
           every_change (right_card e) (λ x. x.number) c.args.number (crank_cut c.args.speed) (cranks_in deck.cranks)
-          (λ x found ok. cut_card_right e x c.args.speed (cut_told e x c.args.speed (sym fine ∙ c.cut.ensures.refusal ∙ ap (λ o. band_refused e o c.args.speed) found)) ok) deck.right) }
+          (λ x found ok. cut_card_right e x c.args.speed (cut_told e x c.args.speed (sym fine ∙ c.cut.ensures.refusal ∙ ap (λ o. band_refused e o c.args.speed) found)) ok) deck.right);
+    }
 
 pub returns-in-Crank : goal.returns-in-Crank
 returns-in-Crank c =

@@ -13,10 +13,12 @@ use Rattle.deck.proofs.deck.Deck.recost.Goals as goal
 pub invariant_of-self : goal.invariant_of-self
 invariant_of-self c =
     let deck = c.args.self.now in
-    let e = numbers_of deck.engine in record { right = cranks_kept deck c.recost.new.self _ c.recost.result c.recost.ensures.done
+    let e = numbers_of deck.engine in record {
+      right = cranks_kept deck c.recost.new.self _ c.recost.result c.recost.ensures.done
           (λ fine.
           every_change (right_card e) (λ x. x.number) c.args.number (crank_recosted c.args.index c.args.cost) (cranks_in deck.cranks)
-          (λ x found ok. recosted_right e x c.args.index c.args.cost (recost_told (find_by (λ y. y.number) c.args.number (cranks_in deck.cranks)) c.args.index c.args.cost (sym fine ∙ c.recost.ensures.refusal)) ok) deck.right) }
+          (λ x found ok. recosted_right e x c.args.index c.args.cost (recost_told (find_by (λ y. y.number) c.args.number (cranks_in deck.cranks)) c.args.index c.args.cost (sym fine ∙ c.recost.ensures.refusal)) ok) deck.right);
+    }
 
 pub returns-in-Crank : goal.returns-in-Crank
 returns-in-Crank c =

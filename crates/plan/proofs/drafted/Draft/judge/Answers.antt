@@ -10,9 +10,11 @@ pub invariant_of-self : goal.invariant_of-self
 invariant_of-self g c =
     let deck = c.args.self.now.deck in
     let guest = c.args.guest.now in
-    let told = c.in_ok-verdict.ensures in record { kept =
-      subst (Kept deck) (sym c.mark-self.ensures)
-          (kept_judged deck (g.G.Task.graph guest) c.args.horizon (g.met.G.Task.lawful guest) c.in_ok-verdict.verdict told.judged.says) }
+    let told = c.in_ok-verdict.ensures in record {
+      kept =
+          subst (Kept deck) (sym c.mark-self.ensures)
+          (kept_judged deck (g.G.Task.graph guest) c.args.horizon (g.met.G.Task.lawful guest) c.in_ok-verdict.verdict told.judged.says);
+    }
 
 pub returns-in_err-verdict : goal.returns-in_err-verdict
 returns-in_err-verdict g c =
