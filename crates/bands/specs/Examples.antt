@@ -1,6 +1,6 @@
 -- Worked engines and cards, with the answers that their graphs give.
 use Rattle.std.specs.Prelude.{◌≡◌, ℕ, List, [], ◌∷◌, ◌++◌, Some, None, Option}
-use Rattle.std.specs.List.{AllByRecursion as All}
+use Rattle.std.specs.List.{AllByRecursion}
 use Rattle.task.specs.Graph.{Graph}
 use Rattle.engine.specs.declared.card.Mode.{Mode}
 use Rattle.engine.specs.Views.{Numbers, Parts, house_engine}
@@ -95,4 +95,4 @@ abbrev pub worked_rows : List Row
 worked_rows = two_rows ++ three_rows ++ far_rows
 
 abbrev pub Worked : Type 0
-Worked = All Holds worked_rows
+Worked = AllByRecursion Holds worked_rows

@@ -3,7 +3,7 @@
 -- in k-ths of a step per tick, and in a k-th of a tick a speed, so counted, changes by at most the engine's rise or
 -- fall.
 use Rattle.std.specs.Prelude.{◌≡◌, ℕ, ◌+◌, ◌*◌, ◌<◌, ◌≤◌, ◌⊎◌, List, [], ◌∷◌, length}
-use Rattle.std.specs.List.{AllByRecursion as All}
+use Rattle.std.specs.List.{AllByRecursion}
 use Rattle.engine.specs.Views.{Numbers, Parts}
 use Rattle.bands.specs.Graphs.{lower_end, upper_end}
 
@@ -26,7 +26,7 @@ end_speed v (w ∷ ws) = end_speed w ws
 -- k-ths of a tick as it has later speeds.
 pub record Turn (e : Numbers) (angle k v : ℕ) (vs : List ℕ) : Type 0 where
   pub longer : 1 ≤ length vs
-  pub within : All (λ s. (k * e.least ≤ s) × (s ≤ k * e.greatest)) (v ∷ vs)
+  pub within : AllByRecursion (λ s. (k * e.least ≤ s) × (s ≤ k * e.greatest)) (v ∷ vs)
   pub changes : Changes e.rise e.fall v vs
   pub turned : pairs v vs ≡ 2 * (k * k) * angle
 

@@ -1,6 +1,6 @@
 -- All worked examples in one table: the answers of worked engine cards, and the verdicts on worked plans.
 use Rattle.std.specs.Prelude.{ℕ, ◌≤◌, List, [], ◌∷◌, ◌++◌, map}
-use Rattle.std.specs.List.{AllByRecursion as All}
+use Rattle.std.specs.List.{AllByRecursion}
 use Rattle.task.specs.Kinds.{empty_graph}
 use Rattle.engine.specs.Views.{Numbers}
 use Rattle.bands.specs.Examples.{three_bands, worked_rows, Row as Answer, Holds as Answered}
@@ -42,4 +42,4 @@ abbrev pub table_rows : List Row
 table_rows = map answer worked_rows ++ verdict_rows
 
 abbrev pub WorkedTable : Type 0
-WorkedTable = All Holds table_rows
+WorkedTable = AllByRecursion Holds table_rows

@@ -1,6 +1,6 @@
 -- The promise: whatever calls are made, in whatever order, refused ones among them, every answer holds.
 use Rattle.std.specs.Prelude.{◌≡◌, ℕ, ◌+◌, ◌*◌, ◌<◌, ◌≤◌, Bool, true, false, ◌⊎◌, List, [], ◌∷◌, ◌++◌, map, length, Some, None, Ok, Option, ◌≢◌}
-use Rattle.std.specs.List.{AllByRecursion as All}
+use Rattle.std.specs.List.{AllByRecursion}
 use Rattle.refusal.specs.declared.Refusal.{Refusal}
 use Rattle.task.specs.Graph.{Graph, Lawful}
 use Rattle.task.specs.Jobs.{Follows}
@@ -76,7 +76,7 @@ ToldOf s e =
 
 -- no change was accepted
 abbrev pub Unchanged : History → Type 0
-Unchanged h = All (λ e. (c : Change) → e.call ≡ change c → e.answer ≢ done) h
+Unchanged h = AllByRecursion (λ e. (c : Change) → e.call ≡ change c → e.answer ≢ done) h
 
 -- Judge answered "over" at t with the total n, for engine and cards s and a guest. What the tells since then say of it:
 pub record Explained (s : Cards) (guest : Graph) (t n : ℕ) (since : History) : Type 0 where
@@ -85,7 +85,7 @@ pub record Explained (s : Cards) (guest : Graph) (t n : ℕ) (since : History) :
   -- a tell at t is never refused, with memory enough
   pub never_refused : (number work lent : ℕ) → named s number ≡ true → 24 * (t + 1) ≤ work → t ≤ lent → tell_refused s number t work lent ≡ None
   -- every tell gave a walk of these cards, or none
-  pub walks : All (ToldOf s) since
+  pub walks : AllByRecursion (ToldOf s) since
   -- told at t for each card and for the same guest, the walks together demand the total
   pub together : (demand : ℕ → ℕ) → ((number : ℕ) → named s number ≡ true → ToldDemand since guest number t (demand number)) → asked_of demand (numbers s) + demand 0 ≡ n
   -- no choice of walks inside t demands more
