@@ -3,8 +3,8 @@ ghost use Rattle.std.specs.Prelude.{◌≡◌, ◌≤◌, ◌&&◌, [], is_ok, M
 ghost use Rattle.refusal.specs.declared.Refusal.TheVariants.{ValueLimits};
 ghost use Rattle.task.specs.Jobs.{Timing};
 ghost use Rattle.task.specs.Kinds.{empty_graph, timed_graph};
+ghost use Rattle.task.specs.Lawful.{empty_lawful, timed_lawful};
 ghost use Rattle.task.specs.Following.{none_follow, timing_follows};
-ghost use Rattle.std.proofs.Common.{rules, arith};
 
 use crate::interface::Task;
 use refusal::Refusal;
@@ -18,7 +18,7 @@ impl Task for Empty {
 
     ghost lists = { λ _ k js. js ≡ [] };
 
-    ghost lawful = { Prim.search rules };
+    ghost lawful = { λ _. empty_lawful };
 
     ghost follows = { λ x k js o l. none_follow _ k js l };
 
@@ -99,7 +99,7 @@ impl Task for Timed {
 
     ghost lists = { λ c k js. Timing k c.period c.deadline c.cost js };
 
-    ghost lawful = { first_of (Prim.search rules, Prim.grind (arith, Self.row.coded.inj)) };
+    ghost lawful = { λ c. timed_lawful c.period c.deadline c.cost c.period_most c.deadline_least c.deadline_most c.cost_least c.cost_most };
 
     ghost follows = { λ x k js o l. timing_follows k x.period x.deadline x.cost js l };
 

@@ -1,6 +1,6 @@
 -- No turn from a band to a band is faster than the gap between them, and where the gap is absent there is none.
 use Rattle.std.proofs.Common.{◌≡◌, ℕ, ◌+◌, ◌-◌, ◌*◌, ◌<◌, ◌≤◌, true, false, ltb, leb, List, [], ◌∷◌, length, Some, None, Option, sym, refl, ap, ◌∙◌, subst, inl, inr, ⊎_elim, mul-le-mul_left, mul-pos, arith}
-use Rattle.std.specs.List.{AllByRecursion as All}
+use Rattle.std.specs.List.{AllByRecursion}
 use Rattle.std.proofs.lemmas.List.{get_or_past}
 use Rattle.std.proofs.lemmas.Bool.{leb-true, leb-false, ltb-false, lt-ltb, le-ltb, and_cases, cond-true, cond-false, both_ways, cases_lt, cases_order}
 use Rattle.engine.specs.Views.{Numbers, Parts}
@@ -160,12 +160,12 @@ in_below : (e : Numbers) (c : Parts) (k p q v : ℕ) → BandAt c q → InBand e
 in_below e c k p q v b h l = ⊎_elim (λ s. s) (λ s. absurd (omega (arith, s.0, b.1, l))) h.1
 
 -- what holds of all speeds holds of the greatest
-of_among : (P : ℕ → Type 0) (p v : ℕ) (ws : List ℕ) → Among p v ws → All P (v ∷ ws) → P p
+of_among : (P : ℕ → Type 0) (p v : ℕ) (ws : List ℕ) → Among p v ws → AllByRecursion P (v ∷ ws) → P p
 of_among P p v [] r a = subst P r a.0
 of_among P p v (w ∷ ws) (inl r) a = subst P r a.0
 of_among P p v (w ∷ ws) (inr r) a = of_among P p w ws r a.1
 
-end_most : (p v : ℕ) (ws : List ℕ) → All (λ s. s ≤ p) (v ∷ ws) → end_speed v ws ≤ p
+end_most : (p v : ℕ) (ws : List ℕ) → AllByRecursion (λ s. s ≤ p) (v ∷ ws) → end_speed v ws ≤ p
 end_most p v [] a = a.0
 end_most p v (w ∷ ws) a = end_most p w ws a.1
 

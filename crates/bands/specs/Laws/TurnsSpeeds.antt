@@ -1,6 +1,6 @@
 -- What every list of speeds has whose changes an engine allows.
 use Rattle.std.proofs.Common.{◌≡◌, ℕ, ◌+◌, ◌-◌, ◌*◌, ◌≤◌, ◌⊎◌, List, [], ◌∷◌, length, refl, inl, inr, ⊎_elim, mul-le-mul_left, arith}
-use Rattle.std.specs.List.{AllByRecursion as All}
+use Rattle.std.specs.List.{AllByRecursion}
 use Rattle.std.proofs.lemmas.Bool.{cases_lt}
 use Rattle.bands.specs.Gaps.{square}
 use Rattle.bands.specs.Turns.{Changes, pairs, end_speed}
@@ -48,10 +48,10 @@ Among p v [] = v ≡ p
 Among p v (w ∷ ws) = (v ≡ p) ⊎ Among p w ws
 
 pub record Greatest (p v : ℕ) (ws : List ℕ) : Type 0 where
-  pub most : All (λ s. s ≤ p) (v ∷ ws)
+  pub most : AllByRecursion (λ s. s ≤ p) (v ∷ ws)
   pub reached : Among p v ws
 
-all_up : (p q : ℕ) → p ≤ q → (ws : List ℕ) → All (λ s. s ≤ p) ws → All (λ s. s ≤ q) ws
+all_up : (p q : ℕ) → p ≤ q → (ws : List ℕ) → AllByRecursion (λ s. s ≤ p) ws → AllByRecursion (λ s. s ≤ q) ws
 all_up p q h [] a = tt
 all_up p q h (w ∷ ws) a = (omega (arith, a.0), all_up p q h ws a.1)
 
@@ -69,7 +69,7 @@ greatest_of v (w ∷ ws) =
     (cases_lt p v)
 
 -- all of a turn's speeds are at most p
-fall_peak : (A D p v : ℕ) (ws : List ℕ) → All (λ s. s ≤ p) (v ∷ ws) → Changes A D v ws → D * pairs v ws + square (p - end_speed v ws) ≤ 2 * D * p * length ws + square (p - v)
+fall_peak : (A D p v : ℕ) (ws : List ℕ) → AllByRecursion (λ s. s ≤ p) (v ∷ ws) → Changes A D v ws → D * pairs v ws + square (p - end_speed v ws) ≤ 2 * D * p * length ws + square (p - v)
 fall_peak A D p v [] a h = omega arith
 fall_peak A D p v (w ∷ ws) a h =
     let x = step_peak D p v w a.0 a.1.0 h.1 in
@@ -77,7 +77,7 @@ fall_peak A D p v (w ∷ ws) a h =
     omega (arith, x, y)
 
 -- and one of them is p
-at_peak : (A D p v : ℕ) (ws : List ℕ) → All (λ s. s ≤ p) (v ∷ ws) → v ≡ p → Changes A D v ws → A * D * pairs v ws + D * square (p - v) + A * square (p - end_speed v ws) ≤ 2 * A * D * p * length ws
+at_peak : (A D p v : ℕ) (ws : List ℕ) → AllByRecursion (λ s. s ≤ p) (v ∷ ws) → v ≡ p → Changes A D v ws → A * D * pairs v ws + D * square (p - v) + A * square (p - end_speed v ws) ≤ 2 * A * D * p * length ws
 at_peak A D p v ws a e h =
     let z : p - v ≡ 0 = omega arith in
     let x = fall_peak A D p v ws a h in
@@ -89,7 +89,7 @@ at_peak A D p v ws a e h =
         let m = mul-le-mul_left A y in
         rw z (omega (arith, m))
 
-pub peak_sum : (A D p v : ℕ) (ws : List ℕ) → All (λ s. s ≤ p) (v ∷ ws) → Among p v ws → Changes A D v ws → A * D * pairs v ws + D * square (p - v) + A * square (p - end_speed v ws) ≤ 2 * A * D * p * length ws
+pub peak_sum : (A D p v : ℕ) (ws : List ℕ) → AllByRecursion (λ s. s ≤ p) (v ∷ ws) → Among p v ws → Changes A D v ws → A * D * pairs v ws + D * square (p - v) + A * square (p - end_speed v ws) ≤ 2 * A * D * p * length ws
 peak_sum A D p v [] a r h = at_peak A D p v [] a r h
 peak_sum A D p v (w ∷ ws) a (inl r) h = at_peak A D p v (w ∷ ws) a r h
 peak_sum A D p v (w ∷ ws) a (inr r) h =
