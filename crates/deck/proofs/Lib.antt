@@ -7,4 +7,5 @@ pub mod Totals
 pub mod Examples
 pub mod Sound
 pub mod Runs
+pub mod OfDecks
 pub mod Tellings

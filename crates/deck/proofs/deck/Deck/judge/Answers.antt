@@ -10,8 +10,7 @@ use Rattle.deck.specs.Cards.{cards_of}
 use Rattle.deck.specs.Judging.{crank_graph, clock_graph, tasks, Says}
 use Rattle.deck.specs.Sums.{Grown}
 use Rattle.deck.proofs.Seen.{crank_count, clock_count}
-use Rattle.deck.proofs.Sound.{deck_sound}
-use Rattle.deck.proofs.Runs.{promised}
+use Rattle.deck.proofs.OfDecks.{promised}
 use Rattle.deck.proofs.Totals.{grown_then, spared_then, summed_from, says_from}
 use Rattle.deck.proofs.deck.Deck.judge.Given as given
 use Rattle.deck.proofs.deck.Deck.judge.Goals as goal
@@ -80,5 +79,5 @@ returns g c =
         says = all.says;
       };
       runs =
-          promised (cards_of deck) (deck_sound deck) (g.G.Task.graph guest) (g.G.Task.lists guest) c.args.horizon (g.met.G.Task.lawful guest) (g.met.G.Task.follows guest) c.over.result all.says;
+          promised deck (g.G.Task.graph guest) (g.G.Task.lists guest) c.args.horizon (g.met.G.Task.lawful guest) (g.met.G.Task.follows guest) c.over.result all.says;
     }
