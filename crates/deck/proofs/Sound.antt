@@ -35,7 +35,7 @@ between_says low high x h =
     (leb-true low x parts.0, leb-true x high parts.1)
 
 -- ---- the cards of a deck are sound
-engine_sound : (e : Engine) → numbers_ok (numbers_of e) ≡ true
+pub engine_sound : (e : Engine) → numbers_ok (numbers_of e) ≡ true
 engine_sound e =
     and_from _ _ (le-leb 1 e.least e.turns)
     (and_from _ _ (lt-ltb e.least e.greatest e.varies)
