@@ -1,6 +1,6 @@
 -- Gaps: how many whole ticks every turn of an engine takes at the least that leads from a speed in one band to a
 -- speed in another.
-use Rattle.std.specs.Prelude.{◌≡◌, ℕ, zero, suc, ◌+◌, ◌-◌, ◌*◌, ◌≤◌, Bool, true, false, cond, ◌&&◌, leb, Some, None, Option, nat_le, nat_lt}
+use Rattle.std.specs.Prelude.{◌≡◌, ℕ, zero, suc, ◌+◌, ◌-◌, ◌*◌, ◌≤◌, Bool, true, false, cond, ◌&&◌, Some, None, Option, nat_le, nat_lt}
 
 abbrev pub square : ℕ → ℕ
 square n = n * n
@@ -54,7 +54,7 @@ allows_3 x T = nat_le (square (x.A * x.D * T + x.D * x.ui + x.A * x.uj)) ((x.A +
 
 abbrev pub allows_4 : Pair → ℕ → Bool
 allows_4 x T =
-    leb (2 * x.A * x.D * x.M * T)
+    nat_le (2 * x.A * x.D * x.M * T)
     (2 * x.A * x.D * x.G + x.D * square (x.M - x.ui) + x.A * square (x.M - x.uj))
 
 -- T ticks are allowed by the first rule that applies

@@ -7,7 +7,7 @@ ghost use Rattle.engine.specs.Changes.{card_refusal};
 ghost use Rattle.engine.specs.Views.{numbers_of, parts_of, modes_ok, modes_of, bands_of};
 ghost use Rattle.bands.specs.Gaps.{GapByRules};
 ghost use Rattle.bands.specs.Rules.{pair_of, BandOf};
-ghost use Rattle.bands.specs.Graphs.{lower_end, upper_end, pair_at, band_here, band_gap, mode_end, has_shared_speed, cost_between, band_cost, GreatestCost, lesser as lesser-gap, band_deadline, LeastGap, bands_graph};
+ghost use Rattle.bands.specs.Graphs.{lower_end, upper_end, pair_at, band_here, band_gap, mode_end, has_shared_speed, cost_between, band_cost, GreatestCost, lesser as lesser_gap, band_deadline, LeastGap, bands_graph};
 
 use crate::gaps::{Band, Turn, gap};
 use engine::card::{Card, Mode};
@@ -159,7 +159,7 @@ impl Bands {
 
 // The lesser of two gaps, of which either may be absent.
 fn lesser(a: Option<u32>, b: Option<u32>) -> Option<u32>
-    ensures { result ≡ lesser-gap a b }
+    ensures { result ≡ lesser_gap a b }
 {
     match (a, b) {
         (Some(x), Some(y)) => Some(x.min(y)),

@@ -58,8 +58,8 @@ fn gaps<T: Task>(task: &T, places: usize) -> [Option<u32>; ROW * ROW]
 
 // Writes the gaps that leave one place into its row.
 fn put_gaps<T: Task>(task: &T, places: usize, v: usize, all: &mut [Option<u32>; ROW * ROW])
-    requires places_bound { places ≤ 24 }
-    requires v_lt_places { v < places }
+    requires few { places ≤ 24 }
+    requires place { v < places }
     ensures row { (u : ℕ) → u < places → slice_index_or all.new (v * 24 + u) None ≡ (T.Task.graph task.now).gap (v + 1) (u + 1) }
     ensures before { (i : ℕ) → i < v * 24 → slice_index_or all.new i None ≡ slice_index_or all.old i None }
 {

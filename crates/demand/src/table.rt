@@ -10,8 +10,8 @@ use crate::local::{Local, ROW};
 // The greatest demand of a walk that this place can go on with.
 fn rest_after(local: &Local, work: &[u32], t: u32, v: usize) -> u32
     requires lawful { Lawful (graph_of local.now) }
-    requires v_lt_places { v < local.now.places }
-    requires t_in_bounds { t * 24 ≤ length work.now }
+    requires place { v < local.now.places }
+    requires cells { t * 24 ≤ length work.now }
     requires rows { Rows (graph_of local.now) work.now t 0 }
     ensures { Rest (graph_of local.now) t (v + 1) local.now.places result }
 {
@@ -31,9 +31,9 @@ fn rest_after(local: &Local, work: &[u32], t: u32, v: usize) -> u32
 // The cell of row t, column v, once the rows before row t are full.
 fn best_from(local: &Local, work: &[u32], t: u32, v: usize) -> u32
     requires lawful { Lawful (graph_of local.now) }
-    requires v_lt_places { v < local.now.places }
-    requires t_bound { t ≤ 20000 }
-    requires t_in_bounds { t * 24 ≤ length work.now }
+    requires place { v < local.now.places }
+    requires limit { t ≤ 20000 }
+    requires cells { t * 24 ≤ length work.now }
     requires rows { Rows (graph_of local.now) work.now t 0 }
     ensures { Best (graph_of local.now) t (v + 1) result }
 {
@@ -46,9 +46,9 @@ fn best_from(local: &Local, work: &[u32], t: u32, v: usize) -> u32
 // Fills row t, once the rows before it are full.
 fn fill_row(local: &Local, work: &mut [u32], t: u32)
     requires lawful { Lawful (graph_of local.now) }
-    requires t_bound { t ≤ 20000 }
-    requires t_in_bounds { (t + 1) * 24 ≤ length work.old }
-    requires rows_2 { Rows (graph_of local.now) work.old t 0 }
+    requires limit { t ≤ 20000 }
+    requires cells { (t + 1) * 24 ≤ length work.old }
+    requires filled { Rows (graph_of local.now) work.old t 0 }
     ensures rows { Rows (graph_of local.now) work.new (t + 1) 0 }
     ensures spare { Spared ((t + 1) * 24) work.old work.new }
 {
@@ -61,8 +61,8 @@ fn fill_row(local: &Local, work: &mut [u32], t: u32)
 // Fills every row up to the horizon.
 pub(crate) fn fill(local: &Local, work: &mut [u32], horizon: u32)
     requires lawful { Lawful (graph_of local.now) }
-    requires horizon_bound { horizon ≤ 20000 }
-    requires horizon_in_bounds { (horizon + 1) * 24 ≤ length work.old }
+    requires limit { horizon ≤ 20000 }
+    requires cells { (horizon + 1) * 24 ≤ length work.old }
     ensures rows { Rows (graph_of local.now) work.new (horizon + 1) 0 }
     ensures spare { Spared ((horizon + 1) * 24) work.old work.new }
 {
@@ -74,7 +74,7 @@ pub(crate) fn fill(local: &Local, work: &mut [u32], horizon: u32)
 // The greatest cell of row t.
 pub(crate) fn row_best(local: &Local, work: &[u32], t: u32) -> u32
     requires lawful { Lawful (graph_of local.now) }
-    requires t_in_bounds { (t + 1) * 24 ≤ length work.now }
+    requires cells { (t + 1) * 24 ≤ length work.now }
     requires rows { Rows (graph_of local.now) work.now (t + 1) 0 }
     ensures { Greatest (graph_of local.now) t result }
 {

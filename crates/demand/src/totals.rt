@@ -42,9 +42,9 @@ pub fn first_over(totals: &[u64], horizon: u32) -> Option<(u32, u64)>
 // Adds the greatest cell of every row up to the horizon to its total.
 pub(crate) fn add_rows(local: &Local, work: &[u32], totals: &mut [u64], horizon: u32)
     requires lawful { Lawful (graph_of local.now) }
-    requires horizon_bound { horizon ≤ 20000 }
-    requires horizon_in_bounds { (horizon + 1) * 24 ≤ length work.now }
-    requires horizon_in_bounds_2 { horizon + 1 ≤ length totals.old }
+    requires limit { horizon ≤ 20000 }
+    requires cells { (horizon + 1) * 24 ≤ length work.now }
+    requires room { horizon + 1 ≤ length totals.old }
     requires rows { Rows (graph_of local.now) work.now (horizon + 1) 0 }
     ensures grown { Grown (graph_of local.now) (horizon + 1) totals.old totals.new }
     ensures beyond { Spared (horizon + 1) totals.old totals.new }

@@ -44,7 +44,7 @@ fn check_told(window: u32, work: usize, jobs: usize) -> Result<(), Refusal>
 // Where the greatest cell of row t stands, and what it holds.
 fn first_place(local: &Local, work: &[u32], t: u32) -> (usize, u32)
     requires lawful { Lawful (graph_of local.now) }
-    requires t_in_bounds { (t + 1) * 24 ≤ length work.now }
+    requires cells { (t + 1) * 24 ≤ length work.now }
     requires rows { Rows (graph_of local.now) work.now (t + 1) 0 }
     ensures { Firsts (graph_of local.now) work.now t result.0 result.1 }
 {
@@ -64,10 +64,10 @@ fn first_place(local: &Local, work: &[u32], t: u32) -> (usize, u32)
 // Where a greatest walk from this place, with so much time left, goes on, and after what gap.
 fn next_place(local: &Local, work: &[u32], left: u32, v: usize) -> Option<(usize, u32)>
     requires lawful { Lawful (graph_of local.now) }
-    requires v_lt_places { v < local.now.places }
-    requires left_in_bounds { (left + 1) * 24 ≤ length work.now }
+    requires place { v < local.now.places }
+    requires cells { (left + 1) * 24 ≤ length work.now }
     requires rows { Rows (graph_of local.now) work.now (left + 1) 0 }
-    requires bound { 1 ≤ cell_at work.now left v }
+    requires starts { 1 ≤ cell_at work.now left v }
     ensures { MatchOption result (cell_at work.now left v ≡ (graph_of local.now).cost (v + 1)) (λ x. Nexts (graph_of local.now) work.now left v x.0 x.1) }
 {
     let rest = work[left as usize * ROW + v] - local.cost[v];
@@ -89,12 +89,12 @@ fn next_place(local: &Local, work: &[u32], left: u32, v: usize) -> Option<(usize
 // Writes the jobs of a greatest walk from this place, and says how many there are.
 fn put_jobs(local: &Local, work: &[u32], window: u32, first: usize, jobs: &mut [ToldJob]) -> u32
     requires lawful { Lawful (graph_of local.now) }
-    requires first_lt_places { first < local.now.places }
-    requires window_bound { window ≤ 20000 }
-    requires window_in_bounds { window ≤ length jobs.old }
-    requires window_in_bounds_2 { (window + 1) * 24 ≤ length work.now }
+    requires place { first < local.now.places }
+    requires limit { window ≤ 20000 }
+    requires room { window ≤ length jobs.old }
+    requires cells { (window + 1) * 24 ≤ length work.now }
     requires rows { Rows (graph_of local.now) work.now (window + 1) 0 }
-    requires bound { 1 ≤ cell_at work.now window first }
+    requires starts { 1 ≤ cell_at work.now window first }
     ensures { WalkTold (graph_of local.now) window jobs.old jobs.new result (cell_at work.now window first) }
 {
     let mut v = first;

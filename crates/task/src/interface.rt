@@ -38,7 +38,9 @@ pub trait Task {
         1 <= place && place <= self.places()
     }
 
+    // a law: these answers keep the limits of the interface
     ghost lawful: { (x : Self) → Lawful (graph x) };
 
+    // a law: every list of jobs that the task may release follows these answers
     ghost follows: { (x : Self) (k : ℕ) (js : List Job) → 1 ≤ k → lists x k js → Follows (graph x) k js };
 }

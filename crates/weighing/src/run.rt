@@ -4,7 +4,7 @@ ghost use Rattle.std.specs.Option.{option_to_list};
 ghost use Rattle.plan.specs.Standing.{new_plan, stands};
 ghost use Rattle.planfile.specs.declared.turns.Open.TheVariants as opens;
 ghost use Rattle.weighing.specs.Pending.{pending_of, no_card};
-ghost use Rattle.weighing.specs.Running.{fault_place, left_open, ends as ends-reading, Prints, Weighed};
+ghost use Rattle.weighing.specs.Running.{fault_place, left_open, ends as ends_reading, Prints, Weighed};
 ghost use Rattle.weighing.specs.Played.{LinesHold};
 ghost use Rattle.weighing.specs.Turns.{state_of, Turned, Took, Carried, last_line, fault_line};
 
@@ -41,7 +41,7 @@ fn is_open(state: Open) -> bool
 
 // Whether a record that is refused so ends the reading.
 fn ends(record: Record, refusal: Refusal) -> bool
-    ensures { result ≡ ends-reading «record» refusal }
+    ensures { result ≡ ends_reading «record» refusal }
 {
     let number = refusal.number();
     match record.head().kind {

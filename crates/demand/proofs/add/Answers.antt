@@ -10,13 +10,13 @@ pub fill-requires : goal.fill-requires
 fill-requires g c =
     let task = c.args.task.now in
     let lent = lent_fits c.args.horizon (length c.args.work.now) (length c.args.totals.now) c.in_ok-check_lent.ensures in
-    (record { lawful = subst Lawful (sym c.of-local.ensures) (g.met.T.Task.lawful task); horizon_bound = lent.most; horizon_in_bounds = omega (arith, lent.work_room) })
+    (record { lawful = subst Lawful (sym c.of-local.ensures) (g.met.T.Task.lawful task); limit = lent.most; cells = omega (arith, lent.work_room) })
 
 pub add_rows-requires : goal.add_rows-requires
 add_rows-requires g c =
     let task = c.args.task.now in
     let lent = lent_fits c.args.horizon (length c.args.work.now) (length c.args.totals.now) c.in_ok-check_lent.ensures in
-    (record { lawful = subst Lawful (sym c.of-local.ensures) (g.met.T.Task.lawful task); horizon_bound = lent.most; horizon_in_bounds = omega (arith, lent.work_room, c.fill.auto.work); horizon_in_bounds_2 = lent.totals_room; rows = c.fill.ensures.rows })
+    (record { lawful = subst Lawful (sym c.of-local.ensures) (g.met.T.Task.lawful task); limit = lent.most; cells = omega (arith, lent.work_room, c.fill.auto.work); room = lent.totals_room; rows = c.fill.ensures.rows })
 
 pub returns : goal.returns
 returns g c = record {

@@ -10,8 +10,8 @@ pub bounds-work-t : goal.bounds-work-t
 bounds-work-t c =
     let copy = c.args.local.now in
     let d = c.in-Some.gap in
-    let least = copy_ticks copy c.requires.lawful c.args.v c.loop-u.u d c.requires.v_lt_places c.loop-u-test.true c.in-Some.is in
-    omega (arith, c.requires.t_in_bounds, copy.few)
+    let least = copy_ticks copy c.requires.lawful c.args.v c.loop-u.u d c.requires.place c.loop-u-test.true c.in-Some.is in
+    omega (arith, c.requires.cells, copy.few)
 
 pub loop-u-preserved : goal.loop-u-preserved
 loop-u-preserved c =
@@ -21,11 +21,11 @@ loop-u-preserved c =
     let v = c.args.v in
     let u = c.loop-u.u in
     let rest = c.loop-u.rest in
-    let gap = copy_gap copy v u c.requires.v_lt_places c.loop-u-test.true in
+    let gap = copy_gap copy v u c.requires.place c.loop-u-test.true in
     elim c.match-next.branch [
       | in-Some+then-gap-t w ↦
           let d = w.in-Some.gap in
-          let least = copy_ticks copy c.requires.lawful v u d c.requires.v_lt_places c.loop-u-test.true w.in-Some.is in
+          let least = copy_ticks copy c.requires.lawful v u d c.requires.place c.loop-u-test.true w.in-Some.is in
           let cell = get_or c.args.work.now ((t - d) * 24 + u) 0 in
           let x = greater rest cell c.match-next.rest (w.rest-is ∙ w.max-rest.ensures) in
           rest_more graph t (v + 1) u rest cell d c.match-next.rest c.loop-u.invariant (gap ∙ w.in-Some.is) (omega (arith, w.if-gap-t.true))

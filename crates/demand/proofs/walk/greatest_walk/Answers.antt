@@ -10,13 +10,13 @@ use Rattle.demand.proofs.walk.greatest_walk.Goals as goal
 pub fill-requires : goal.fill-requires
 fill-requires g c =
     let lent = told_fits c.args.window (length c.args.work.now) (length c.args.jobs.now) c.in_ok-check_told.ensures in
-    (record { lawful = subst Lawful (sym c.of-local.ensures) (g.met.T.Task.lawful c.args.task.now); horizon_bound = lent.most; horizon_in_bounds = omega (arith, lent.work_room) })
+    (record { lawful = subst Lawful (sym c.of-local.ensures) (g.met.T.Task.lawful c.args.task.now); limit = lent.most; cells = omega (arith, lent.work_room) })
 
 pub first_place-first-requires : goal.first_place-first-requires
 first_place-first-requires g c =
     let lent = told_fits c.args.window (length c.args.work.now) (length c.args.jobs.now) c.in_ok-check_told.ensures in (record {
       lawful = subst Lawful (sym c.of-local.ensures) (g.met.T.Task.lawful c.args.task.now);
-      t_in_bounds = omega (arith, lent.work_room, c.fill.auto.work);
+      cells = omega (arith, lent.work_room, c.fill.auto.work);
       rows = c.fill.ensures.rows;
     })
 
@@ -39,12 +39,12 @@ put_jobs-count-requires g c =
     let more : 1 ≤ c.first_place-first.result.1 = omega (arith, c.if-demand-eq0.false) in
     let here = c.first_place-first.ensures.here more in (record {
       lawful = subst Lawful (sym c.of-local.ensures) (g.met.T.Task.lawful c.args.task.now);
-      first_lt_places = omega (arith, here.0, copy_places copy);
-      window_bound = lent.most;
-      window_in_bounds = lent.jobs_room;
-      window_in_bounds_2 = omega (arith, lent.work_room, c.fill.auto.work);
+      place = omega (arith, here.0, copy_places copy);
+      limit = lent.most;
+      room = lent.jobs_room;
+      cells = omega (arith, lent.work_room, c.fill.auto.work);
       rows = c.fill.ensures.rows;
-      bound = omega (arith, here.1);
+      starts = omega (arith, here.1);
     })
 
 pub returns : goal.returns

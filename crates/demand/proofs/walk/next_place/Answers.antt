@@ -17,8 +17,8 @@ overflow_sub-rest c =
     let copy = c.args.local.now in
     let left = c.args.left in
     let v = c.args.v in
-    let here = c.requires.rows.above left v (omega arith) (omega (arith, copy_places copy, c.requires.v_lt_places)) in
-    omega (arith, copy_cost copy v c.requires.v_lt_places, cell_cost (graph_of copy) left (v + 1) (cell_at c.args.work.now left v) here c.requires.bound)
+    let here = c.requires.rows.above left v (omega arith) (omega (arith, copy_places copy, c.requires.place)) in
+    omega (arith, copy_cost copy v c.requires.place, cell_cost (graph_of copy) left (v + 1) (cell_at c.args.work.now left v) here c.requires.starts)
 
 pub loop-u-preserved : goal.loop-u-preserved
 loop-u-preserved c =
@@ -28,7 +28,7 @@ loop-u-preserved c =
     let v = c.args.v in
     let u = c.loop-u.u in
     let rest = cell_at work left v - get_or copy.cost v 0 in
-    let gap = copy_gap copy v u c.requires.v_lt_places c.loop-u-test.true in
+    let gap = copy_gap copy v u c.requires.place c.loop-u-test.true in
     none_more (graph_of copy) work left v rest u c.loop-u.invariant (λ d is early full.
     elim c.match-next.branch [
       | in-Some+else-gap-left w ↦
@@ -47,12 +47,12 @@ returns-then-rest-eq0 c =
     let copy = c.args.local.now in
     let left = c.args.left in
     let v = c.args.v in
-    let here = c.requires.rows.above left v (omega arith) (omega (arith, copy_places copy, c.requires.v_lt_places)) in
+    let here = c.requires.rows.above left v (omega arith) (omega (arith, copy_places copy, c.requires.place)) in
     omega (
       arith,
-      copy_cost copy v c.requires.v_lt_places,
+      copy_cost copy v c.requires.place,
       c.if-rest-eq0.true,
-      cell_cost (graph_of copy) left (v + 1) (cell_at c.args.work.now left v) here c.requires.bound,
+      cell_cost (graph_of copy) left (v + 1) (cell_at c.args.work.now left v) here c.requires.starts,
     )
 
 pub returns-then-work-left : goal.returns-then-work-left
@@ -64,10 +64,10 @@ returns-then-work-left c =
     let u = c.loop-u.u in
     let d = c.in-Some.gap in
     let rest = cell_at work left v - get_or copy.cost v 0 in
-    let gap = copy_gap copy v u c.requires.v_lt_places c.loop-u-test.true in
-    let here = c.requires.rows.above left v (omega arith) (omega (arith, copy_places copy, c.requires.v_lt_places)) in
-    let least = cell_cost (graph_of copy) left (v + 1) (cell_at work left v) here c.requires.bound in
-    let cost = copy_cost copy v c.requires.v_lt_places in
+    let gap = copy_gap copy v u c.requires.place c.loop-u-test.true in
+    let here = c.requires.rows.above left v (omega arith) (omega (arith, copy_places copy, c.requires.place)) in
+    let least = cell_cost (graph_of copy) left (v + 1) (cell_at work left v) here c.requires.starts in
+    let cost = copy_cost copy v c.requires.place in
     let is : cell_at work (left - d) u ≡ rest = c.if-work-left.true in
     let more : 1 ≤ rest = omega (arith, c.if-rest-eq0.false) in
     record {
@@ -85,10 +85,10 @@ returns c =
     let left = c.args.left in
     let v = c.args.v in
     let rest = cell_at work left v - get_or copy.cost v 0 in
-    let place : v < (graph_of copy).places = omega (arith, copy_places copy, c.requires.v_lt_places) in
+    let place : v < (graph_of copy).places = omega (arith, copy_places copy, c.requires.place) in
     let here = c.requires.rows.above left v (omega arith) place in
-    let least = cell_cost (graph_of copy) left (v + 1) (cell_at work left v) here c.requires.bound in
-    let cost = copy_cost copy v c.requires.v_lt_places in
+    let least = cell_cost (graph_of copy) left (v + 1) (cell_at work left v) here c.requires.starts in
+    let cost = copy_cost copy v c.requires.place in
     let more : 1 ≤ rest = omega (arith, c.if-rest-eq0.false) in
     let end : c.loop-u.u ≡ (graph_of copy).places = omega (arith, copy_places copy) in
     absurd (rest_found (graph_of copy) work left v rest place c.requires.rows (omega arith) more

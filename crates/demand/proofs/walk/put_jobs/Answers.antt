@@ -9,7 +9,7 @@ use Rattle.demand.proofs.walk.put_jobs.Goals as goal
 
 pub loop-u-init : goal.loop-u-init
 loop-u-init c =
-    (c.requires.first_lt_places, omega arith, c.requires.bound, walked_none (graph_of c.args.local.now) c.args.work.now c.args.window c.args.first c.args.jobs.now, refl)
+    (c.requires.place, omega arith, c.requires.starts, walked_none (graph_of c.args.local.now) c.args.work.now c.args.window c.args.first c.args.jobs.now, refl)
 
 pub overflow_add-jobs-in-loop-u : goal.overflow_add-jobs-in-loop-u
 overflow_add-jobs-in-loop-u c =
@@ -17,7 +17,7 @@ overflow_add-jobs-in-loop-u c =
     let v = c.loop-u.v in
     let h = c.loop-u.invariant.0 in
     let most = (c.requires.lawful.deadlines (v + 1) (omega arith, omega (arith, copy_places copy))).1 in
-    omega (arith, copy_deadline copy v h, c.requires.window_bound)
+    omega (arith, copy_deadline copy v h, c.requires.limit)
 
 pub bounds-jobs-count : goal.bounds-jobs-count
 bounds-jobs-count c =
@@ -26,7 +26,7 @@ bounds-jobs-count c =
     let v = c.loop-u.v in
     let h = c.loop-u.invariant.0 in
     let time = cell_left (graph_of copy) c.requires.lawful c.args.work.now c.args.window left v c.requires.rows (omega (arith, c.loop-u.invariant.1)) (omega (arith, copy_places copy)) c.loop-u.invariant.2 in
-    omega (arith, time.0, time.1, c.requires.window_in_bounds, c.loop-u.invariant.1, c.loop-u.auto.jobs)
+    omega (arith, time.0, time.1, c.requires.room, c.loop-u.invariant.1, c.loop-u.auto.jobs)
 
 pub loop-u-smaller : goal.loop-u-smaller
 loop-u-smaller c =
@@ -55,7 +55,7 @@ loop-u-preserved c =
     let most : left ≤ window = omega (arith, c.loop-u.invariant.1) in
     let place : v < (graph_of copy).places = omega arith in
     let time = cell_left (graph_of copy) c.requires.lawful work window left v c.requires.rows most place c.loop-u.invariant.2 in
-    let room : count < length jobs = omega (arith, time.0, time.1, c.requires.window_in_bounds, c.loop-u.invariant.1, c.loop-u.auto.jobs) in
+    let room : count < length jobs = omega (arith, time.0, time.1, c.requires.room, c.loop-u.invariant.1, c.loop-u.auto.jobs) in
     let least = (c.requires.lawful.gaps (v + 1) (u + 1) d (omega arith, omega arith) (omega arith, omega (arith, next.place)) next.gap).0 in (
       omega (arith, next.place),
       omega (arith, next.early, c.loop-u.invariant.1),
@@ -80,7 +80,7 @@ returns-in-None c =
     let most : left ≤ window = omega (arith, c.loop-u.invariant.1) in
     let place : v < (graph_of copy).places = omega (arith, copy_places copy) in
     let time = cell_left (graph_of copy) c.requires.lawful work window left v c.requires.rows most place c.loop-u.invariant.2 in
-    let room : count < length jobs = omega (arith, time.0, time.1, c.requires.window_in_bounds, c.loop-u.invariant.1, c.loop-u.auto.jobs) in
+    let room : count < length jobs = omega (arith, time.0, time.1, c.requires.room, c.loop-u.invariant.1, c.loop-u.auto.jobs) in
     subst (λ (job : ToldJob). WalkTold (graph_of copy) window c.args.jobs.now (set jobs count job) (count + 1) (cell_at work window first))
     (sym (told_is copy (window - left) v h))
     (walked_all (graph_of copy) work window first left v count jobs c.args.jobs.now place time.1 room c.loop-u.invariant.3 c.in-None.ensures c.loop-u.invariant.4)
