@@ -44,3 +44,14 @@ pub struct Card {
     pub modes: ModeList,
     pub bands: BandList,
 }
+
+// The parts of an engine card as a caller gives them, before they are checked.
+#[derive(Clone, Copy)]
+pub struct CardParts<'a> {
+    // the angle of the crank, in steps
+    pub angle: u32,
+    // the modes, by rising lower speed
+    pub modes: &'a [Mode],
+    // the lower speeds of the bands, rising
+    pub bands: &'a [u32],
+}

@@ -1,11 +1,11 @@
 // How an engine card is made, and how one of its modes or bands is changed.
 ghost use Rattle.std.specs.Prelude.{◌≡◌, ◌<◌, ◌≤◌, length, take, IfOk, MatchResult};
 ghost use Rattle.refusal.specs.Numbers.{refusal_in};
-ghost use Rattle.engine.specs.Views.{numbers_of, parts_of};
+ghost use Rattle.engine.specs.Views.{numbers_of, parts_of, parts_given};
 ghost use Rattle.table.specs.Ordered.{insert_by};
 ghost use Rattle.engine.specs.Changes.{card_refusal, cut_refusal, cut_wrong, cut, recost_refusal, recost, holds_number};
 
-use crate::card::{BandList, Card, Mode, ModeList};
+use crate::card::{BandList, Card, CardParts, Mode, ModeList};
 use crate::checks::{angle_right, bands_right, cost_right, modes_right};
 use crate::engine::Engine;
 use refusal::Refusal;
@@ -92,23 +92,23 @@ impl Card {
     };
 
     // A card of these parts, or the first refusal where one is wrong for the engine.
-    pub fn new(engine: &Engine, angle: u32, modes: &[Mode], bands: &[u32]) -> Result<Card, Refusal>
-        ensures refusal { refusal_in result ≡ card_refusal (numbers_of engine.now) (record { angle = angle; modes = modes.now; bands = bands.now }) }
-        ensures made { IfOk result (λ c. parts_of c ≡ record { angle = angle; modes = modes.now; bands = bands.now }) }
+    pub fn new(engine: &Engine, parts: CardParts<'_>) -> Result<Card, Refusal>
+        ensures refusal { refusal_in result ≡ card_refusal (numbers_of engine.now) (parts_given parts.entry) }
+        ensures made { IfOk result (λ c. parts_of c ≡ parts_given parts.entry) }
     {
-        if !angle_right(engine, angle) {
+        if !angle_right(engine, parts.angle) {
             return Err(Refusal::AngleLimits);
         }
-        if !modes_right(engine, modes) {
+        if !modes_right(engine, parts.modes) {
             return Err(Refusal::ModeList);
         }
-        if !bands_right(engine, bands) {
+        if !bands_right(engine, parts.bands) {
             return Err(Refusal::BandList);
         }
         Ok(Card {
-            angle,
-            modes: mode_list(modes),
-            bands: band_list(bands),
+            angle: parts.angle,
+            modes: mode_list(parts.modes),
+            bands: band_list(parts.bands),
         })
     }
 
