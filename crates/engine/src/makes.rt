@@ -26,9 +26,7 @@ impl Engine {
         if !turns || !(1..=500).contains(&rise) || !(1..=500).contains(&fall) {
             return Err(Refusal::EngineLimits);
         }
-        let Ok(entry) = EntryCost::new(entry) else {
-            return Err(Refusal::EngineLimits);
-        };
+        let entry = EntryCost::new(entry).map_err(|_| Refusal::EngineLimits)?;
         Ok(Engine {
             least,
             greatest,
