@@ -1,10 +1,7 @@
 -- A card's table of modes and its list of modes.
-use Rattle.std.proofs.Common.{◌≡◌, ℕ, zero, suc, ◌<◌, true, false, List, [], ◌∷◌, get_or, take, set, is_some, Some, None, Option, sym, refl, ap, arith, MatchOption}
-use Rattle.std.proofs.lemmas.Bool.{eq-eqb, ne_eqb, or_left, or_right, or_from}
-use Rattle.table.specs.Found.{Lacks, First}
-use Rattle.table.proofs.Ordered.{first_take}
+use Rattle.std.proofs.Common.{◌≡◌, ℕ, zero, suc, List, [], ◌∷◌, get_or, take, set, refl, ap}
 use Rattle.engine.specs.declared.card.Mode.{Mode}
-use Rattle.engine.specs.Changes.{holds_number, recosted}
+use Rattle.engine.specs.Changes.{recosted}
 
 -- the mode that recost writes
 abbrev pub with_cost : Mode → ℕ → Mode

@@ -4,7 +4,8 @@ ghost use Rattle.std.specs.Prelude.{◌≡◌, ◌≤◌, length};
 use crate::Keyed;
 use std::alloc::AllocError;
 
-// At most `N` items: the first `used` cells of a table.
+// At most `N` items: the first `used` cells of a table. The count stands beside a table of fixed
+// length, and is no Vec, since a plan takes no memory of the heap.
 pub struct Few<T, const N: usize> {
     pub table: [T; N],
     pub used: usize,

@@ -5,6 +5,8 @@ ghost use Rattle.refusal.specs.declared.Refusal.TheVariants.{ValueLimits};
 use refusal::Refusal;
 
 // A share of a deadline, in thousandths.
+// Share and EntryCost stay two types: one type with its limits as parameters would tell a share from
+// a cost only because their limits differ, and could name the unit of neither.
 #[derive(Clone, Copy)]
 pub struct Share {
     thousandths: u16,
