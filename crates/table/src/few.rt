@@ -82,7 +82,8 @@ impl<T: Keyed + Copy, const N: usize> Few<T, N> {
     ghost use Rattle.table.specs.Found.{First, Lacks};
     ghost use Rattle.table.specs.Ordered.{insert_by};
 
-    // The index of the first item with that key.
+    // The index of the first item with that key. Cell by cell, and no binary search, as the promise
+    // holds of items in any order.
     pub fn find(&self, key: u32) -> Option<usize>
         ensures { MatchOption result (Lacks T.Keyed.key key (items_of self.now)) (λ i. (i < self.now.used) × First T.Keyed.key key self.now.table i) }
     {
