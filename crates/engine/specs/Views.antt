@@ -1,17 +1,12 @@
 -- Engines and engine cards as plain numbers and lists, and when a card is right for an engine.
-use Rattle.std.specs.Prelude.{◌≡◌, ℕ, Bool, true, ◌&&◌, List, length, take, nat_le}
+use Rattle.std.specs.Prelude.{◌≡◌, ℕ, Bool, true, ◌&&◌, List, length, nat_le}
+use Rattle.table.specs.Few.{items_of}
 use Rattle.engine.specs.declared.engine.Engine.{Engine}
+pub use Rattle.engine.specs.declared.numbers.Numbers.{Numbers}
 use Rattle.engine.specs.declared.card.Mode.{Mode}
 use Rattle.engine.specs.declared.card.Card.{Card}
+use Rattle.engine.specs.declared.card.CardParts.{CardParts}
 use Rattle.engine.specs.Limits.{angle_ok, speeds_ok, cost_ok, every, bands_ok}
-
--- An engine's five numbers: the least and the greatest speed, the acceleration and the slowing, the entry cost.
-pub record Numbers : Type 0 where
-  pub least : ℕ
-  pub greatest : ℕ
-  pub rise : ℕ
-  pub fall : ℕ
-  pub entry : ℕ
 
 abbrev pub numbers_of : Engine → Numbers
 numbers_of e = record { least = e.least; greatest = e.greatest; rise = e.rise; fall = e.fall; entry = e.entry.ticks }
@@ -27,13 +22,17 @@ pub record Parts : Type 0 where
   pub bands : List ℕ
 
 abbrev pub modes_of : Card → List Mode
-modes_of c = take c.modes.used c.modes.table
+modes_of c = items_of c.modes
 
 abbrev pub bands_of : Card → List ℕ
-bands_of c = take c.bands.used c.bands.table
+bands_of c = items_of c.bands
 
 abbrev pub parts_of : Card → Parts
 parts_of c = record { angle = c.angle; modes = modes_of c; bands = bands_of c }
+
+-- the parts as a caller gives them
+abbrev pub parts_given : CardParts → Parts
+parts_given p = record { angle = p.angle; modes = p.modes.now; bands = p.bands.now }
 
 -- 1 to 8 modes
 abbrev pub modes_ok : ℕ → ℕ → List Mode → Bool

@@ -5,3 +5,4 @@ pub mod changes;
 pub mod checks;
 pub mod engine;
 pub mod makes;
+pub mod numbers;

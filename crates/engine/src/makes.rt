@@ -5,21 +5,23 @@ ghost use Rattle.engine.specs.Limits.{engine_refusal};
 ghost use Rattle.engine.specs.Views.{numbers_of, house_engine};
 
 use crate::engine::Engine;
+use crate::numbers::Numbers;
 use refusal::Refusal;
 use task::checked::EntryCost;
 
 impl Engine {
     // An engine of these five numbers, or a refusal where one is outside its limits.
-    pub fn new(
-        least: u32,
-        greatest: u32,
-        rise: u16,
-        fall: u16,
-        entry: u16,
-    ) -> Result<Engine, Refusal>
-        ensures refusal { refusal_in result ≡ engine_refusal least greatest rise fall entry }
-        ensures made { IfOk result (λ e. numbers_of e ≡ record { least = least; greatest = greatest; rise = rise; fall = fall; entry = entry }) }
+    pub fn new(numbers: Numbers) -> Result<Engine, Refusal>
+        ensures refusal { refusal_in result ≡ engine_refusal numbers.least numbers.greatest numbers.rise numbers.fall numbers.entry }
+        ensures made { IfOk result (λ e. numbers_of e ≡ numbers) }
     {
+        let Numbers {
+            least,
+            greatest,
+            rise,
+            fall,
+            entry,
+        } = numbers;
         if least < 1 || least >= greatest || greatest > 150_000 {
             return Err(Refusal::EngineLimits);
         }

@@ -39,6 +39,17 @@ impl Task for Empty {
     }
 }
 
+// The numbers of a timed task as a caller gives them, before they are checked.
+#[derive(Clone, Copy, PartialEq, Eq, Debug)]
+pub struct TimedParts {
+    // the least time from release to release, in ticks
+    pub period: u32,
+    // the time from a release to its due tick, in ticks
+    pub deadline: u32,
+    // the greatest cost of a job, in ticks
+    pub cost: u32,
+}
+
 // A task released at least a period apart.
 #[derive(Clone, Copy)]
 pub struct Timed {
@@ -61,10 +72,15 @@ impl Timed {
     };
 
     // A timed task, or a refusal where a number is outside its limits.
-    pub fn new(period: u32, deadline: u32, cost: u32) -> Result<Timed, Refusal>
-        ensures made { MatchResult result (λ c. (c.period ≡ period) × (c.deadline ≡ deadline) × (c.cost ≡ cost)) (λ e. e ≡ ValueLimits) }
-        ensures when { is_ok result ≡ ((nat_le 1 period && nat_le period 100000000) && ((nat_le 1 deadline && nat_le deadline period) && (nat_le 1 cost && nat_le cost 100000))) }
+    pub fn new(parts: TimedParts) -> Result<Timed, Refusal>
+        ensures made { MatchResult result (λ c. (c.period ≡ parts.period) × (c.deadline ≡ parts.deadline) × (c.cost ≡ parts.cost)) (λ e. e ≡ ValueLimits) }
+        ensures when { is_ok result ≡ ((nat_le 1 parts.period && nat_le parts.period 100000000) && ((nat_le 1 parts.deadline && nat_le parts.deadline parts.period) && (nat_le 1 parts.cost && nat_le parts.cost 100000))) }
     {
+        let TimedParts {
+            period,
+            deadline,
+            cost,
+        } = parts;
         if period < 1 || period > 100_000_000 {
             return Err(Refusal::ValueLimits);
         }
