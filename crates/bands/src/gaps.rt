@@ -32,17 +32,6 @@ fn squared(n: u64) -> u64
     n * n
 }
 
-// The square of the speed after a turn at a steady rate, from this speed.
-fn reached(speed: u64, rate: u64, angle: u64) -> u64
-    requires speeds { speed ≤ 150000 }
-    requires rates { rate ≤ 500 }
-    requires angles { angle ≤ 24000000 }
-    ensures value { result ≡ square speed + 2 * rate * angle }
-    ensures most { result ≤ 46500000000 }
-{
-    squared(speed) + 2 * rate * angle
-}
-
 // The greatest number of steps from a base whose square is at most the bound.
 fn most_steps(bound: u64, step: u64, base: u64) -> u64
     requires moves { 1 ≤ step }
@@ -78,7 +67,7 @@ impl Turn {
         ensures value { result ≡ square self.now.from.high + 2 * self.now.rise * self.now.angle }
         ensures most { result ≤ 46500000000 }
     {
-        reached(self.from.high, self.rise, self.angle)
+        squared(self.from.high) + 2 * self.rise * self.angle
     }
 
     // Whether a turn flat out from the first band gets above the lower end of the second.
@@ -115,7 +104,7 @@ impl Turn {
         most_steps(self.flat_out(), self.rise, self.from.high)
     }
 
-    // A number of each band, weighed by the rate that changes the other's speed.
+    // A number of the first band and one of the second, weighed by the fall and by the rise.
     fn weighed(&self, from: u64, to: u64) -> u64
         requires first { from ≤ 22500000000 }
         requires second { to ≤ 22500000000 }

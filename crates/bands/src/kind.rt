@@ -4,13 +4,13 @@ ghost use Rattle.task.specs.Graph.{Place};
 ghost use Rattle.engine.specs.Limits.{angle_ok, bands_ok};
 ghost use Rattle.refusal.specs.Numbers.{refusal_in};
 ghost use Rattle.engine.specs.Changes.{card_refusal};
-ghost use Rattle.engine.specs.Views.{numbers_of, parts_of, modes_ok, modes_of, bands_of};
+ghost use Rattle.engine.specs.Views.{numbers_of, parts_of, parts_given, modes_ok, modes_of, bands_of};
 ghost use Rattle.bands.specs.Gaps.{GapByRules};
 ghost use Rattle.bands.specs.Views.{band_at, IsTurn};
 ghost use Rattle.bands.specs.Graphs.{pair_at, band_gap, cost_between, band_cost, GreatestCost, band_deadline, LeastGap, bands_graph};
 
 use crate::gaps::{Band, Turn};
-use engine::card::{Card, Mode};
+use engine::card::{Card, CardParts, Mode};
 use engine::engine::Engine;
 use refusal::Refusal;
 
@@ -26,33 +26,19 @@ pub struct Bands {
 
 impl Bands {
     // An engine card's bands from its parts, or the first refusal where one is wrong for the engine.
-    pub fn new(engine: Engine, angle: u32, modes: &[Mode], bands: &[u32]) -> Result<Bands, Refusal>
-        ensures refusal { refusal_in result ≡ card_refusal (numbers_of engine) (record { angle = angle; modes = modes.now; bands = bands.now }) }
-        ensures made { IfOk result (λ b. (numbers_of b.engine ≡ numbers_of engine) × (parts_of b.card ≡ record { angle = angle; modes = modes.now; bands = bands.now })) }
+    pub fn new(engine: Engine, parts: CardParts<'_>) -> Result<Bands, Refusal>
+        ensures refusal { refusal_in result ≡ card_refusal (numbers_of engine) (parts_given parts.entry) }
+        ensures made { IfOk result (λ b. (numbers_of b.engine ≡ numbers_of engine) × (parts_of b.card ≡ parts_given parts.entry)) }
     {
-        let card = Card::new(&engine, angle, modes, bands)?;
+        let card = Card::new(&engine, parts)?;
         Ok(Bands { engine, card })
-    }
-
-    // The lower speeds of the bands.
-    fn lows(&self) -> &[u32]
-        ensures { result.now ≡ bands_of self.now.card }
-    {
-        &self.card.bands.table[..self.card.bands.used]
-    }
-
-    // How many bands there are.
-    pub(crate) fn count(&self) -> usize
-        ensures { result ≡ length (bands_of self.now.card) }
-    {
-        self.lows().len()
     }
 
     // A band by its number; none where there is no band of that number.
     fn band(&self, place: usize) -> Option<Band>
         ensures { result ≡ band_at (numbers_of self.now.engine) (parts_of self.now.card) place }
     {
-        let lows = self.lows();
+        let lows = self.card.bands.as_slice();
         let low = lows.get(place.checked_sub(1)?).copied()?;
         let high = lows.get(place).copied().unwrap_or(self.engine.greatest);
         Some(Band {
@@ -86,20 +72,17 @@ impl Bands {
         self.turn(from, to)?.gap()
     }
 
-    // The modes of the card.
-    fn modes(&self) -> &[Mode]
-        ensures { result.now ≡ modes_of self.now.card }
-    {
-        &self.card.modes.table[..self.card.modes.used]
-    }
-
     // The greatest cost of the modes that share a speed with a band, or 0 where the band is lacking.
     pub fn band_cost(&self, place: usize) -> u32
         ensures value { result ≡ band_cost (numbers_of self.now.engine) (parts_of self.now.card) place }
         ensures greatest { Place (bands_graph (numbers_of self.now.engine) (parts_of self.now.card)) place → GreatestCost (numbers_of self.now.engine) (parts_of self.now.card) place result }
     {
         match self.band(place) {
-            Some(band) => greatest_cost(u64::from(self.engine.greatest), band, self.modes()),
+            Some(band) => greatest_cost(
+                u64::from(self.engine.greatest),
+                band,
+                self.card.modes.as_slice(),
+            ),
             None => 0,
         }
     }
@@ -109,7 +92,7 @@ impl Bands {
         ensures value { result ≡ band_deadline (numbers_of self.now.engine) (parts_of self.now.card) place }
         ensures least { Place (bands_graph (numbers_of self.now.engine) (parts_of self.now.card)) place → LeastGap (numbers_of self.now.engine) (parts_of self.now.card) place result }
     {
-        (1..=self.count())
+        (1..=self.card.bands.len())
             .filter_map(|to| self.gap_between(place, to))
             .min()
             .unwrap_or(0)

@@ -25,7 +25,7 @@ returns c =
     (YieldsList-from_filter_map _ (band_gap e parts p)
     (YieldsList-at c.filter_map.ensures.source (YieldsList-from_inclusive c.new.result)) c.filter_map.ensures.closure
     (λ x r q k. search (rules, tests)))
-    ∙ reduce-whole e parts p c.count.result c.new.result c.new.ensures.start c.new.ensures.end c.new.ensures.exhausted in
+    ∙ reduce-whole e parts p c.len.result c.new.result c.new.ensures.start c.new.ensures.end c.new.ensures.exhausted in
     let value : c.unwrap_or.result ≡ band_deadline e parts p
-    = c.unwrap_or.ensures ∙ ticks_or c.min.result ∙ ap ticks (least ∙ ap (least_leaving e parts p) c.count.ensures) in
+    = c.unwrap_or.ensures ∙ ticks_or c.min.result ∙ ap ticks (least ∙ ap (least_leaving e parts p) c.len.ensures) in
     record { value = value; least = λ h. subst (LeastGap e parts p) (sym value) (deadline_least e parts (ready_of b) p h) }
