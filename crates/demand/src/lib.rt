@@ -5,11 +5,13 @@ ghost use Rattle.refusal.specs.Numbers.{refusal_in};
 ghost use Rattle.demand.specs.Judged.{lent_refusal, Added};
 
 mod copy;
+mod fill;
+mod filled;
 mod local;
-mod table;
 mod totals;
 mod walk;
 
+use crate::filled::Filled;
 use crate::local::{Local, ROW};
 pub use crate::totals::{clear, first_over};
 pub use crate::walk::{Told, ToldJob, greatest_walk};
@@ -42,7 +44,12 @@ pub fn add<T: Task>(
 {
     check_lent(horizon, work.len(), totals.len())?;
     let local = Local::of(task);
-    table::fill(&local, work, horizon);
-    totals::add_rows(&local, work, totals, horizon);
+    local.fill(work, horizon);
+    let filled = Filled {
+        local: &local,
+        work,
+        rows: horizon + 1,
+    };
+    filled.add_to(totals);
     Ok(())
 }
