@@ -36,12 +36,6 @@ no_gap o a p q = let z : ◌≡◌ {A = ℕ} 0 1 = cc in omega arith
 up_to : (q k : ℕ) → q ≤ k + 1 → (q ≤ k) ⊎ (q ≡ k + 1)
 up_to q k h = ⊎_elim (λ a. inl (omega arith)) (λ b. inr (omega arith)) (cases_lt q (k + 1))
 
-pub rest_none : (g : Graph) (t p : ℕ) → Rest g t p 0 0
-rest_none g t p = record {
-  reached = inl refl;
-  bounds = λ q ps h o. absurd (let w = walk_place g q ps o.inside.0 in omega arith);
-}
-
 -- a bound on what goes on to k + 1 is all that a step adds
 rest_bounds : (g : Graph) (t p k n x : ℕ) → Rest g t p k n → n ≤ x → ((ps : List ℕ) → Onward g t p (k + 1) ps → demand_of g (k + 1) ps ≤ x)
     → (q : ℕ) (ps : List ℕ) → q ≤ k + 1 → Onward g t p q ps → demand_of g q ps ≤ x

@@ -94,17 +94,6 @@ extend g s p q d ps place gap early i =
 abbrev pub NoneBefore : Graph → List ℕ → ℕ → ℕ → ℕ → ℕ → Type 0
 NoneBefore g work s v rest k = (u : ℕ) → u < k → (d : ℕ) → g.gap (v + 1) (u + 1) ≡ Some d → d ≤ s → cell_at work (s - d) u ≡ rest → ⊥
 
--- nor does place k + 1
-pub none_more : (g : Graph) (work : List ℕ) (s v rest k : ℕ) → NoneBefore g work s v rest k
-    → ((d : ℕ) → g.gap (v + 1) (k + 1) ≡ Some d → d ≤ s → cell_at work (s - d) k ≡ rest → ⊥) → NoneBefore g work s v rest (k + 1)
-none_more g work s v rest k before here u h =
-    ⊎_elim
-    (λ a. before u a)
-    (λ a.
-    let e : k ≡ u = omega arith in
-    subst (λ (j : ℕ). (d : ℕ) → g.gap (v + 1) (j + 1) ≡ Some d → d ≤ s → cell_at work (s - d) j ≡ rest → ⊥) e here)
-    (cases_lt u k)
-
 found_at : (g : Graph) (work : List ℕ) (n s v rest : ℕ) → v < g.places → s < n → Rows g work n 0 → cell_at work s v ≡ g.cost (v + 1) + rest → 1 ≤ rest
     → NoneBefore g work s v rest g.places
     → (u d : ℕ) (ps : List ℕ) → u < g.places → g.gap (v + 1) (u + 1) ≡ Some d
@@ -143,13 +132,6 @@ pub record Walked (g : Graph) (work : List ℕ) (window first s v i : ℕ) (jobs
   pub ahead : (ps : List ℕ) → Inside g s (v + 1) ps → demand_of g (v + 1) ps ≡ cell_at work s v
       → (qs : List ℕ) × Inside g window (first + 1) qs × (demand_of g (first + 1) qs ≡ cell_at work window first)
       × (length qs ≡ i + length ps) × (told_from g 0 (first + 1) qs ≡ take i jobs ++ told_from g (window - s) (v + 1) ps)
-
-pub walked_none : (g : Graph) (work : List ℕ) (window first : ℕ) (jobs : List ToldJob) → Walked g work window first window first 0 jobs
-walked_none g work window first jobs = record {
-  ahead = λ ps i e.
-      let none : 0 ≡ window - window = omega arith in
-      (ps, i, e, omega arith, ap (λ (r : ℕ). told_from g r (first + 1) ps) none);
-}
 
 -- the job at v is written, and the walk goes on at u
 pub walked_more : (g : Graph) (work : List ℕ) (window first s v i u d : ℕ) (jobs : List ToldJob) → v < g.places → s ≤ window → i < length jobs
@@ -219,7 +201,3 @@ tells_none g l t d jobs most e = record {
     same = refl;
   });
 }
-
--- the cells past the table, counted either way round
-pub spare_from : (t : ℕ) (work work' : List ℕ) → Spared ((t + 1) * 24) work work' → Spared (24 * (t + 1)) work work'
-spare_from t work work' s i h = s i (omega arith)

@@ -15,11 +15,9 @@ no_stop = record { cost = 0; deadline = 0; gaps = [] }
 abbrev pub stop_at : List Stop → ℕ → Stop
 stop_at stops p = slice_index_or stops (p - 1) no_stop
 
-unfoldable pub cost_on : ℕ → List Stop → ℕ → ℕ
-cost_on places stops p = cond (in_copy places p) (stop_at stops p).cost 0
-
-unfoldable pub deadline_on : ℕ → List Stop → ℕ → ℕ
-deadline_on places stops p = cond (in_copy places p) (stop_at stops p).deadline 0
+-- a number of the stop at a place, 0 where there is none
+unfoldable pub number_on : (Stop → ℕ) → ℕ → List Stop → ℕ → ℕ
+number_on f places stops p = cond (in_copy places p) (f (stop_at stops p)) 0
 
 unfoldable pub gap_on : ℕ → List Stop → ℕ → ℕ → Option ℕ
 gap_on places stops p q = cond (in_copy places p && in_copy places q) (slice_index_or (stop_at stops p).gaps (q - 1) None) None
@@ -27,8 +25,8 @@ gap_on places stops p q = cond (in_copy places p && in_copy places q) (slice_ind
 abbrev pub graph_on : ℕ → List Stop → Graph
 graph_on places stops = record {
   places = places;
-  cost = cost_on places stops;
-  deadline = deadline_on places stops;
+  cost = number_on (λ s. s.cost) places stops;
+  deadline = number_on (λ s. s.deadline) places stops;
   gap = gap_on places stops;
 }
 

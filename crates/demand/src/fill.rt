@@ -1,28 +1,28 @@
 // How the worktable fills up, row by row.
-ghost use Rattle.std.specs.Prelude.{◌+◌, ◌*◌, ◌≤◌, length};
+ghost use Rattle.std.specs.Prelude.{ℕ, ◌+◌, ◌*◌, ◌<◌, ◌≤◌, length, slice_index};
 ghost use Rattle.demand.specs.Copied.{graph_of};
-ghost use Rattle.demand.specs.Table.{Rows, Spared};
+ghost use Rattle.demand.specs.Table.{Best, Rows, Spared};
 
 use crate::filled::Filled;
 use crate::local::{Local, ROW};
 
 impl Local {
-    // Fills row t, once the rows before it are full.
-    fn fill_row(&self, work: &mut [u32], t: u32)
+    // Fills the cells of row t, from the rows before it.
+    fn fill_row(&self, before: &[u32], t: u32, row: &mut [u32])
         requires limit { t ≤ 20000 }
-        requires cells { (t + 1) * 24 ≤ length work.old }
-        requires filled { Rows (graph_of self.now) work.old t 0 }
-        ensures rows { Rows (graph_of self.now) work.new (t + 1) 0 }
-        ensures spare { Spared ((t + 1) * 24) work.old work.new }
+        requires cells { t * 24 ≤ length before.now }
+        requires full { Rows (graph_of self.now) before.now t 0 }
+        requires room { 24 ≤ length row.old }
+        ensures row { (v : ℕ) → v < self.now.places → Best (graph_of self.now) t (v + 1) (slice_index row.new v) }
+        ensures spare { Spared 24 row.old row.new }
     {
-        let row = t as usize * ROW;
-        for v in 0..self.places {
-            let filled = Filled {
-                local: self,
-                work,
-                rows: t,
-            };
-            work[row + v] = filled.best(v);
+        let filled = Filled {
+            local: self,
+            work: before,
+            rows: t,
+        };
+        for (v, cell) in row[..self.places].iter_mut().enumerate() {
+            *cell = filled.best(v);
         }
     }
 
@@ -34,7 +34,9 @@ impl Local {
         ensures spare { Spared ((horizon + 1) * 24) work.old work.new }
     {
         for t in 0..horizon + 1 {
-            self.fill_row(work, t);
+            let first = t as usize * ROW;
+            let (before, row) = work.split_at_mut(first);
+            self.fill_row(before, t, row);
         }
     }
 }

@@ -47,10 +47,8 @@ impl Filled<'_> {
         let stop = self.local.stop(v);
         let mut rest: u32 = 0;
         for (u, gap) in stop.gaps[..self.local.places].iter().enumerate() {
-            if let Some(gap) = *gap {
-                if gap <= t {
-                    rest = rest.max(self.work[(t - gap) as usize * ROW + u]);
-                }
+            if let Some(gap) = *gap && gap <= t {
+                rest = rest.max(self.work[(t - gap) as usize * ROW + u]);
             }
         }
         rest
@@ -112,10 +110,8 @@ impl Filled<'_> {
             return None;
         }
         for (u, gap) in stop.gaps[..self.local.places].iter().enumerate() {
-            if let Some(gap) = *gap {
-                if gap <= left && self.row(left - gap)[u] == rest {
-                    return Some((u, gap));
-                }
+            if let Some(gap) = *gap && gap <= left && self.row(left - gap)[u] == rest {
+                return Some((u, gap));
             }
         }
         None

@@ -7,7 +7,8 @@ ghost use Rattle.demand.specs.Full.{Full};
 ghost use Rattle.demand.specs.Told.{walk_refusal, Tells, WalkTold};
 
 use crate::filled::Filled;
-use crate::local::{Local, ROW};
+use crate::check_memory;
+use crate::local::Local;
 use refusal::Refusal;
 use task::interface::Task;
 
@@ -25,20 +26,6 @@ pub struct ToldJob {
 pub struct Told {
     pub count: u32,
     pub demand: u32,
-}
-
-// Whether a window and lent memory will do for it.
-fn check_told(window: u32, work: usize, jobs: usize) -> Result<(), Refusal>
-    ensures { refusal_in result ≡ walk_refusal window work jobs }
-{
-    if window < 1 || window > 20_000 {
-        return Err(Refusal::HorizonLimits);
-    }
-    let ticks = window as usize;
-    if work < ROW * (ticks + 1) || jobs < ticks {
-        return Err(Refusal::ShortMemory);
-    }
-    Ok(())
 }
 
 impl Filled<'_> {
@@ -87,7 +74,7 @@ pub fn greatest_walk<T: Task>(
     ensures told { MatchResult result (λ x. Tells (T.Task.graph task.now) window jobs.old jobs.new x.count x.demand) (λ _. (work.new ≡ work.old) × (jobs.new ≡ jobs.old)) }
     ensures spare { Spared (24 * (window + 1)) work.old work.new }
 {
-    check_told(window, work.len(), jobs.len())?;
+    check_memory(window, work.len(), jobs.len(), window as usize)?;
     let local = Local::of(task);
     local.fill(work, window);
     let filled = Filled {
