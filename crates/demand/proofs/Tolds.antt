@@ -10,7 +10,7 @@ use Rattle.task.specs.Walks.{Inside, ticks, demand_of, Greatest}
 use Rattle.demand.specs.declared.local.Stop.{Stop}
 use Rattle.demand.specs.declared.walk.ToldJob.{ToldJob}
 use Rattle.demand.specs.Stops.{StopOf}
-use Rattle.demand.specs.Table.{Best, Rows, Spared, cell_at, Nexts}
+use Rattle.demand.specs.Table.{Best, Rows, cell_at, Firsts, Nexts}
 use Rattle.demand.specs.Told.{told_at, told_from, WalkTold, Tells}
 use Rattle.demand.proofs.Bests.{walk_place, best_late, demand_least, no_gap}
 
@@ -60,13 +60,13 @@ holds_true : (n x : ℕ) → 1 ≤ n → x ≡ n → holds n x ≡ true
 holds_true n x more e = and_from (ltb 0 x) (eqb x n) (lt-ltb 0 x (omega arith)) (eq-eqb x n e)
 
 -- the first cell that holds a greatest demand above 0
-pub place_found : (g : Graph) (t n : ℕ) → Greatest g t n → (cell : ℕ → ℕ) → ((v : ℕ) → v < g.places → Best g t (v + 1) (cell v))
-    → (cells : List ℕ) → length cells ≡ g.places → ((v : ℕ) → v < g.places → get_or cells v 0 ≡ cell v)
-    → (r : Option ℕ) → r ≡ position (holds n) cells → MatchOption r (n ≡ 0) (λ v. (1 ≤ n) × (v < g.places) × (cell v ≡ n))
-place_found g t n most cell best cells count same None e =
+pub place_found : (g : Graph) (t n : ℕ) → Greatest g t n → (work : List ℕ) → ((v : ℕ) → v < g.places → Best g t (v + 1) (cell_at work t v))
+    → (cells : List ℕ) → length cells ≡ g.places → ((v : ℕ) → v < g.places → get_or cells v 0 ≡ cell_at work t v)
+    → (r : Option ℕ) → r ≡ position (holds n) cells → MatchOption r (n ≡ 0) (λ v. (1 ≤ n) × Firsts g work t v n)
+place_found g t n most work best cells count same None e =
     ⊎_elim
     (λ more.
-    let at = greatest_cell g t n most more cell best in
+    let at = greatest_cell g t n most more (cell_at work t) best in
     let here = holds_true n (get_or cells at.0 0) more (same at.0 at.1 ∙ at.2) in
     let first = position_or_len (holds n) cells in
     ⊎_elim
@@ -77,12 +77,12 @@ place_found g t n most cell best cells count same None e =
     (cases_lt at.0 first))
     (λ none. omega arith)
     (cases_lt 0 n)
-place_found g t n most cell best cells count same (Some v) e =
+place_found g t n most work best cells count same (Some v) e =
     let at = position-Some (holds n) cells v 0 (sym e) in
     let both = and_parts (ltb 0 (get_or cells v 0)) (eqb (get_or cells v 0) n) at.1 in
     let more = ltb-true 0 (get_or cells v 0) both.0 in
     let is = eqb-true (get_or cells v 0) n both.1 in
-    (omega arith, omega arith, sym (same v (omega arith)) ∙ is)
+    (omega arith, record { greatest = most; here = λ _. (omega arith, sym (same v (omega arith)) ∙ is) })
 
 -- a walk that starts a gap earlier
 extend : (g : Graph) (s p q d : ℕ) (ps : List ℕ) → Place g p → g.gap p q ≡ Some d → d ≤ s → Inside g (s - d) q ps → Inside g s p (q ∷ ps)

@@ -33,6 +33,7 @@ impl Local {
         ensures rows { Rows (graph_of self.now) work.new (horizon + 1) 0 }
         ensures spare { Spared ((horizon + 1) * 24) work.old work.new }
     {
+        // Each row reads those before it, which no iterator over the rows lends at the same time.
         for t in 0..horizon + 1 {
             let first = t as usize * ROW;
             let (before, row) = work.split_at_mut(first);

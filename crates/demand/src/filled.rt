@@ -28,8 +28,8 @@ fn place_of(cells: &[u32], greatest: u32) -> Option<usize>
     cells.iter().position(|cell| 0 < *cell && *cell == greatest)
 }
 
-// What the rows hold stays a clause of each method: it says that there are walks, and a ghost field keeps only a fact
-// that has no such part.
+// `Full` stays a clause of the methods: as a ghost field it would be a fact with at most one proof, and the walk that it
+// names could not be taken out of such a fact for `Greatest`.
 impl Filled<'_> {
     ghost use Rattle.std.specs.Prelude.{◌≡◌, ℕ, ◌+◌, ◌*◌, ◌<◌, ◌≤◌, length, slice_index, MatchOption};
     ghost use Rattle.task.specs.Walks.{Greatest};
@@ -48,7 +48,7 @@ impl Filled<'_> {
         let mut rest: u32 = 0;
         for (u, gap) in stop.gaps[..self.local.places].iter().enumerate() {
             if let Some(gap) = *gap && gap <= t {
-                rest = rest.max(self.work[(t - gap) as usize * ROW + u]);
+                rest = rest.max(self.row(t - gap)[u]);
             }
         }
         rest
@@ -91,7 +91,7 @@ impl Filled<'_> {
         requires row { t < self.now.rows }
         requires full { Full self.now }
         requires greatest { Greatest (graph_of self.now.local.now) t greatest }
-        ensures { MatchOption result (greatest ≡ 0) (λ v. (1 ≤ greatest) × (v < self.now.local.now.places) × (cell_at self.now.work.now t v ≡ greatest)) }
+        ensures { MatchOption result (greatest ≡ 0) (λ v. (1 ≤ greatest) × Firsts (graph_of self.now.local.now) self.now.work.now t v greatest) }
     {
         place_of(self.row(t), greatest)
     }

@@ -41,6 +41,7 @@ impl Filled<'_> {
         let mut v = first;
         let mut left = window;
         let mut count: u32 = 0;
+        // The walk ends before the list does, so a `for` over the jobs would be no plainer: its end is never reached.
         loop {
             let stop = self.local.stop(v);
             let release = window - left;
