@@ -1,6 +1,8 @@
 -- How the greatest demand of a cell comes from the cells before it.
-use Rattle.std.proofs.Common.{◌≡◌, ℕ, ◌+◌, ◌-◌, ◌*◌, ◌<◌, ◌≤◌, max, ◌⊎◌, List, [], ◌∷◌, Some, None, Option, sym, refl, ap, ◌∙◌, subst, inl, inr, ⊎_elim, arith}
+use Rattle.std.proofs.Common.{◌≡◌, ℕ, ◌+◌, ◌-◌, ◌*◌, ◌<◌, ◌≤◌, max, ◌⊎◌, List, [], ◌∷◌, length, get_or, Some, None, Option, sym, refl, ap, ◌∙◌, subst, inl, inr, ⊎_elim, arith}
+use Rattle.std.specs.List.{Contains}
 use Rattle.std.proofs.lemmas.Bool.{cases_lt}
+use Rattle.std.proofs.lemmas.List.{get_or_default}
 use Rattle.task.specs.Graph.{Graph, Place, Lawful}
 use Rattle.task.specs.Walks.{Walk, Inside, ticks, length_of, demand_of, Greatest}
 use Rattle.demand.specs.Table.{Best, Onward, Rest, Most}
@@ -27,18 +29,12 @@ demand_least g l p (q ∷ ps) w = omega (arith, l.costs p w.0)
 same_gap : (o : Option ℕ) (a b : ℕ) → o ≡ Some a → o ≡ Some b → a ≡ b
 same_gap o a b p q = cc
 
-no_gap : (o : Option ℕ) (a : ℕ) → o ≡ Some a → o ≡ None → ⊥
+pub no_gap : (o : Option ℕ) (a : ℕ) → o ≡ Some a → o ≡ None → ⊥
 no_gap o a p q = let z : ◌≡◌ {A = ℕ} 0 1 = cc in omega arith
 
 -- a place up to k + 1 is one up to k, or k + 1
 up_to : (q k : ℕ) → q ≤ k + 1 → (q ≤ k) ⊎ (q ≡ k + 1)
 up_to q k h = ⊎_elim (λ a. inl (omega arith)) (λ b. inr (omega arith)) (cases_lt q (k + 1))
-
-pub rest_none : (g : Graph) (t p : ℕ) → Rest g t p 0 0
-rest_none g t p = record {
-  reached = inl refl;
-  bounds = λ q ps h o. absurd (let w = walk_place g q ps o.inside.0 in omega arith);
-}
 
 -- a bound on what goes on to k + 1 is all that a step adds
 rest_bounds : (g : Graph) (t p k n x : ℕ) → Rest g t p k n → n ≤ x → ((ps : List ℕ) → Onward g t p (k + 1) ps → demand_of g (k + 1) ps ≤ x)
@@ -129,23 +125,27 @@ rest_most g l t p k n r =
     (λ s. let o = s.2 in omega (arith, demand_most g l s.0 s.1 o.inside.0, o.inside.1, s.3))
     r.reached
 
-pub most_none : (g : Graph) (t : ℕ) → Most g t 0 0
-most_none g t = record {
-  reached = inl refl;
-  bounds = λ p ps h i. absurd (let w = walk_place g p ps i.0 in omega arith);
-}
-
-pub most_more : (g : Graph) (t k n m x : ℕ) → Most g t k n → Best g t (k + 1) m → n ≤ x → m ≤ x → (x ≡ n) ⊎ (x ≡ m) → Most g t (k + 1) x
-most_more g t k n m x r b low low' which = record {
+-- what bounds every cell of a row, and stands in it where it is not 0
+pub most_row : (g : Graph) (t n : ℕ) (cells : List ℕ) → length cells ≡ g.places
+    → ((v : ℕ) → v < g.places → Best g t (v + 1) (get_or cells v 0)) → ((v : ℕ) → v < g.places → get_or cells v 0 ≤ n)
+    → (1 ≤ n → Contains cells n) → Most g t g.places n
+most_row g t n cells count best most found = record {
   reached = ⊎_elim
-      (λ same. ⊎_elim (λ z. inl (same ∙ z)) (λ s. inr (s.0, s.1, s.2, s.3 ∙ sym same)) r.reached)
-      (λ same. ⊎_elim (λ z. inl (same ∙ z)) (λ s. inr (k + 1, s.0, s.1, s.2 ∙ sym same)) b.reached)
-      which;
-  bounds = λ p ps h i.
+      (λ more.
+      let at = found more in
+      let e : get_or cells at.0 0 ≡ n = get_or_default cells at.0 0 n at.1 ∙ at.2 in
       ⊎_elim
-      (λ a. omega (arith, r.bounds p ps a i))
-      (λ e. subst (λ (j : ℕ). Inside g t j ps → demand_of g j ps ≤ x) (sym e) (λ o. omega (arith, b.bounds ps o)) i)
-      (up_to p k h);
+      (λ z. absurd (omega arith))
+      (λ s. inr (at.0 + 1, s.0, s.1, s.2 ∙ e))
+      (best at.0 (omega arith)).reached)
+      (λ none. inl (omega arith))
+      (cases_lt 0 n);
+  bounds = λ p ps h i.
+      let place = walk_place g p ps i.0 in
+      let e : p - 1 + 1 ≡ p = omega arith in
+      let low = (best (p - 1) (omega arith)).bounds ps (subst (λ (j : ℕ). Inside g t j ps) (sym e) i) in
+      let high = most (p - 1) (omega arith) in
+      subst (λ (j : ℕ). demand_of g j ps ≤ n) e (omega arith);
 }
 
 pub most_all : (g : Graph) → Lawful g → (t n : ℕ) → Most g t g.places n → Greatest g t n

@@ -1,0 +1,18 @@
+use Rattle.std.proofs.Common.{◌*◌, ◌≤◌, get_or, ap, ◌∙◌, sym, subst, arith}
+use Rattle.demand.specs.Copied.{graph_of}
+use Rattle.demand.specs.Table.{Rows}
+use Rattle.demand.proofs.Tables.{rows_more, spared_more}
+use Rattle.demand.proofs.local.Local.fill.Goals as goal
+
+pub loop-t-preserved : goal.loop-t-preserved
+loop-t-preserved c =
+    let graph = graph_of c.args.self.now in
+    let t = c.loop-t.t in
+    let before = c.split_at_mut-before.result.0.now in
+    let row = c.split_at_mut-before.result.1.now in
+    let row' = c.fill_row.new.row in
+    let whole = c.split_at_mut-before.ensures.value in
+    let long = c.split_at_mut-before.ensures.front_len in (
+      rows_more graph before row row' t c.args.self.now.lawful.few long (subst (λ work. Rows graph work t 0) whole c.loop-t.invariant.0) c.fill_row.ensures.row,
+      λ i h. spared_more before row row' (t * 24) i long c.fill_row.ensures.spare (omega arith) ∙ ap (λ work. get_or work i 0) (sym whole) ∙ c.loop-t.invariant.1 i h,
+    )
