@@ -1,20 +1,26 @@
 -- What a change in one of a deck's tables means for the deck.
-use Rattle.std.proofs.Common.{◌≡◌, ℕ, true, List, is_some, None, Ok, Err, Result, sym, refl, ap, ◌∙◌, subst, MatchResult}
+use Rattle.std.proofs.Common.{◌≡◌, ℕ, true, List, get_or, set, slice_get, is_some, Some, None, Ok, Err, Option, Result, sym, refl, ap, ◌∙◌, subst, MatchResult}
 use mathlib.Core.Bool.{Bool-set}
 use Rattle.std.proofs.lemmas.Bool.{or_left, or_right}
+use Rattle.std.proofs.lemmas.Option.{slice_get-get_or}
 use Rattle.refusal.specs.declared.Refusal.{Refusal}
 use Rattle.refusal.specs.Numbers.{refusal_in}
-use Rattle.table.specs.Ordered.{find_by}
+use Rattle.table.specs.Ordered.{find_by, change_by}
+use Rattle.table.specs.Found.{First}
+use Rattle.table.proofs.Ordered.{find_first, change_first}
 use Rattle.engine.specs.Limits.{every}
 use Rattle.engine.specs.Views.{numbers_of}
 use Rattle.deck.specs.declared.tables.CrankTable.{CrankTable}
 use Rattle.deck.specs.declared.tables.TimedTable.{TimedTable}
 use Rattle.deck.specs.declared.deck.Deck.{Deck}
-use Rattle.deck.specs.Tables.{Crank, Clock, crank_of, clock_of, cranks_in, clocks_in, right_card}
+use Rattle.deck.specs.declared.deck.Place.{Place}
+use Rattle.deck.specs.declared.deck.Place.TheVariants as places
+use Rattle.deck.specs.Tables.{Crank, Clock, cranks_in, clocks_in, right_card}
 use Rattle.deck.specs.Cards.{Cards, cards_of}
 use Rattle.deck.specs.Calls.{in_use, crank_at, with_cranks, with_clocks, mode_refused, recost_refused, band_refused, cut_refused, drop_refused}
-use Rattle.deck.specs.Found.{AtCrank, AtTimed}
-use Rattle.deck.proofs.Maps.{some_seen}
+use Rattle.deck.specs.Found.{AtCrank, AtTimed, StandsAt}
+use Rattle.deck.proofs.Maps.{some_item}
+use Rattle.deck.proofs.Seen.{crank_first, clock_first}
 
 abbrev pub CranksRight : Deck → CrankTable → Type 0
 CranksRight d t = every (right_card (numbers_of d.engine)) (cranks_in t) ≡ true
@@ -31,17 +37,38 @@ same_deck d t ok p =
     let P : CrankTable → Type 0 = λ u. (k : CranksRight d u) → with_crank_table d u k ≡ d in
     subst P (sym p) (λ k. ap (with_crank_table d d.cranks) (Bool-set _ _ k d.right)) ok
 
-pub crank_some : (t : CrankTable) (n i : ℕ) → AtCrank t n i → is_some (find_by (λ c. c.number) n (cranks_in t)) ≡ true
-crank_some t n i at = some_seen crank_of (λ c. c.number) n t.used t.table i at.0 at.1
+-- the card of a number that is found
+module _ (t : CrankTable) (n i : ℕ) (at : AtCrank t n i) where
+  pub crank_found : find_by (λ c. c.number) n (cranks_in t) ≡ slice_get (cranks_in t) i
+  crank_found =
+      let first = crank_first t n i at in
+      let x = some_item (cranks_in t) i first.0 in
+      find_first (λ c. c.number) n (cranks_in t) i x first ∙ sym (slice_get-get_or (cranks_in t) i x first.0)
+
+  pub crank_some : is_some (find_by (λ c. c.number) n (cranks_in t)) ≡ true
+  crank_some =
+      let first = crank_first t n i at in
+      let x = some_item (cranks_in t) i first.0 in
+      ap is_some (find_first (λ c. c.number) n (cranks_in t) i x first)
 
 pub clock_some : (t : TimedTable) (n i : ℕ) → AtTimed t n i → is_some (find_by (λ c. c.number) n (clocks_in t)) ≡ true
-clock_some t n i at = some_seen clock_of (λ c. c.number) n t.used t.table i at.0 at.1
+clock_some t n i at =
+    let first = clock_first t n i at in
+    let x = some_item (clocks_in t) i first.0 in
+    ap is_some (find_first (λ c. c.number) n (clocks_in t) i x first)
 
-pub crank_in_use : (d : Deck) (n i : ℕ) → AtCrank d.cranks n i → in_use (cards_of d) n ≡ true
-crank_in_use d n i at = or_left _ _ (crank_some d.cranks n i at)
+-- a number is in use where its card is found
+pub stands_in_use : (d : Deck) (n : ℕ) (p : Option Place) → StandsAt d n p → is_some p ≡ in_use (cards_of d) n
+stands_in_use d n (Some (places.Crank i)) at = sym (or_left _ _ (crank_some d.cranks n i at))
+stands_in_use d n (Some (places.Timed i)) at = sym (or_right _ _ (clock_some d.timeds n i at.1))
+stands_in_use d n None at = let one = at.0 in let two = at.1 in rw (one, two)
 
-pub clock_in_use : (d : Deck) (n i : ℕ) → AtTimed d.timeds n i → in_use (cards_of d) n ≡ true
-clock_in_use d n i at = or_right _ _ (clock_some d.timeds n i at)
+-- the item at i, the first of key n, is changed by g
+pub by_key : {U X : Type 0} (key : X → ℕ) (n i : ℕ) (g : X → X) (xs ys : List X) → First key n xs i → (Q : Refusal → Type 0) (r : Result U Refusal) → MatchResult r (λ _. (x : X) → ys ≡ set xs i (g (get_or xs i x))) Q → MatchResult r (λ _. ys ≡ change_by key n g xs) Q
+by_key key n i g xs ys first Q (Ok u) h =
+    let x = some_item xs i first.0 in
+    h x ∙ sym (change_first key n g xs i x first)
+by_key key n i g xs ys first Q (Err y) h = h
 
 -- a card that is there passes the first check
 module _ (s : Cards) (n : ℕ) (here : in_use s n ≡ true) where

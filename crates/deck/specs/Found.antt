@@ -1,5 +1,5 @@
 -- Where a card of a number stands in a deck's tables.
-use Rattle.std.specs.Prelude.{◌≡◌, ℕ, ◌<◌, None}
+use Rattle.std.specs.Prelude.{◌≡◌, ℕ, ◌<◌, Some, None, Option}
 use Rattle.table.specs.Found.{First}
 use Rattle.deck.specs.declared.tables.CrankTable.{CrankTable}
 use Rattle.deck.specs.declared.tables.TimedTable.{TimedTable}
@@ -16,7 +16,8 @@ AtCrank t n i = (i < t.used) × First (λ c. c.number) n t.table i
 abbrev pub AtTimed : TimedTable → ℕ → ℕ → Type 0
 AtTimed t n i = (i < t.used) × First (λ c. c.number) n t.table i
 
-abbrev pub StandsAt : Deck → ℕ → Place → Type 0
-StandsAt d n (places.Crank i) = AtCrank d.cranks n i
-StandsAt d n (places.Timed i) = (crank_at (cards_of d) n ≡ None) × AtTimed d.timeds n i
-StandsAt d n places.Nowhere = (crank_at (cards_of d) n ≡ None) × (clock_at (cards_of d) n ≡ None)
+-- the card of number n is at this place, or there is none
+abbrev pub StandsAt : Deck → ℕ → Option Place → Type 0
+StandsAt d n (Some (places.Crank i)) = AtCrank d.cranks n i
+StandsAt d n (Some (places.Timed i)) = (crank_at (cards_of d) n ≡ None) × AtTimed d.timeds n i
+StandsAt d n None = (crank_at (cards_of d) n ≡ None) × (clock_at (cards_of d) n ≡ None)

@@ -1,7 +1,9 @@
 -- The cards in a plan's tables, as plain numbers and lists.
 use Rattle.std.specs.Prelude.{ℕ, Bool, ◌&&◌, List, map, take}
 use Rattle.engine.specs.Limits.{angle_ok, bands_ok}
-use Rattle.engine.specs.Views.{Numbers, Parts, modes_ok, parts_of}
+use Rattle.engine.specs.declared.card.CardParts.{CardParts}
+use Rattle.engine.specs.Views.{Numbers, Parts, modes_ok, parts_of, parts_given}
+use Rattle.task.specs.declared.kinds.TimedParts.{TimedParts}
 use Rattle.deck.specs.declared.cards.CrankCard.{CrankCard}
 use Rattle.deck.specs.declared.cards.TimedCard.{TimedCard}
 use Rattle.deck.specs.declared.tables.CrankTable.{CrankTable}
@@ -30,6 +32,13 @@ clock_of c = record {
   deadline = c.timed.deadline;
   cost = c.timed.cost;
 }
+
+-- cards as a caller gives them
+abbrev pub crank_given : ℕ → ℕ → CardParts → Crank
+crank_given number share parts = record { number = number; share = share; parts = parts_given parts }
+
+abbrev pub clock_given : ℕ → TimedParts → Clock
+clock_given number parts = record { number = number; period = parts.period; deadline = parts.deadline; cost = parts.cost }
 
 abbrev pub cranks_in : CrankTable → List Crank
 cranks_in t = map crank_of (take t.used t.table)

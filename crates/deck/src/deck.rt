@@ -16,10 +16,9 @@ pub struct Deck {
     ghost right: { every (right_card (numbers_of engine)) (cranks_in cranks) ≡ true },
 }
 
-// Where the card of a number stands: its table and its index there, or nowhere.
+// Where a card stands: its table and its index there.
 #[derive(Clone, Copy)]
 pub enum Place {
     Crank(usize),
     Timed(usize),
-    Nowhere,
 }

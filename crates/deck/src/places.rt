@@ -14,29 +14,23 @@ use refusal::Refusal;
 use table::find;
 
 impl Deck {
-    // Where the card of this number stands.
-    pub(crate) fn place(&self, number: u8) -> Place
+    // Where the card of this number stands, if there is one.
+    pub(crate) fn place(&self, number: u8) -> Option<Place>
         ensures { StandsAt self.now number result }
     {
         let key = u32::from(number);
         if let Some(at) = find(&self.cranks.table, self.cranks.used, key) {
-            return Place::Crank(at);
+            return Some(Place::Crank(at));
         }
-        match find(&self.timeds.table, self.timeds.used, key) {
-            Some(at) => Place::Timed(at),
-            None => Place::Nowhere,
-        }
+        let at = find(&self.timeds.table, self.timeds.used, key)?;
+        Some(Place::Timed(at))
     }
 
     // Whether some card has this number.
     pub(crate) fn uses(&self, number: u8) -> bool
         ensures { result ≡ in_use (cards_of self.now) number }
     {
-        match self.place(number) {
-            Place::Crank(_) => true,
-            Place::Timed(_) => true,
-            Place::Nowhere => false,
-        }
+        self.place(number).is_some()
     }
 
     // Whether any card stands in the deck.
@@ -77,9 +71,9 @@ impl Deck {
         ensures done { MatchResult result (λ _. cards_of self.new ≡ with_recost (cards_of self.old) number index cost) (λ _. self.new ≡ self.old) }
     {
         match self.place(number) {
-            Place::Crank(at) => self.cranks.recost(number, at, index, cost),
-            Place::Timed(at) => self.timeds.recost(number, at, index, cost),
-            Place::Nowhere => Err(Refusal::NoSuchCard),
+            Some(Place::Crank(at)) => self.cranks.recost(at, index, cost),
+            Some(Place::Timed(at)) => self.timeds.recost(at, index, cost),
+            None => Err(Refusal::NoSuchCard),
         }
     }
 
@@ -90,9 +84,9 @@ impl Deck {
     {
         let engine = self.engine;
         match self.place(number) {
-            Place::Crank(at) => self.cranks.cut(&engine, number, at, speed),
-            Place::Timed(_) => Err(Refusal::BandList),
-            Place::Nowhere => Err(Refusal::NoSuchCard),
+            Some(Place::Crank(at)) => self.cranks.cut(at, &engine, speed),
+            Some(Place::Timed(_)) => Err(Refusal::BandList),
+            None => Err(Refusal::NoSuchCard),
         }
     }
 
@@ -102,9 +96,9 @@ impl Deck {
         ensures done { MatchResult result (λ _. cards_of self.new ≡ with_drop (cards_of self.old) number) (λ _. self.new ≡ self.old) }
     {
         match self.place(number) {
-            Place::Crank(at) => self.cranks.take_out(number, at),
-            Place::Timed(at) => self.timeds.take_out(number, at),
-            Place::Nowhere => return Err(Refusal::NoSuchCard),
+            Some(Place::Crank(at)) => self.cranks.take_out(at),
+            Some(Place::Timed(at)) => self.timeds.take_out(at),
+            None => return Err(Refusal::NoSuchCard),
         }
         Ok(())
     }

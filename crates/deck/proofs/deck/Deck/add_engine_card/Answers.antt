@@ -1,5 +1,5 @@
 use Rattle.std.proofs.Common.{arith}
-use Rattle.engine.specs.Views.{numbers_of}
+use Rattle.engine.specs.Views.{numbers_of, parts_given}
 use Rattle.deck.specs.Tables.{crank_of}
 use Rattle.deck.proofs.Rights.{made_right}
 use Rattle.deck.proofs.Seen.{crank_count}
@@ -13,5 +13,5 @@ add_crank-requires c =
       right =
           made_right (numbers_of c.args.self.now.engine)
           (crank_of (record { number = c.args.number; share = c.in_ok-share.share; card = c.in_ok-card.card }))
-          (record { angle = c.args.angle; modes = c.args.modes.now; bands = c.args.bands.now }) made.made made.refusal;
+          (parts_given c.args.parts) made.made made.refusal;
     }
