@@ -52,7 +52,7 @@ impl Deck {
         ensures refusal { refusal_in result ≡ engine_refused (cards_of self.old) numbers }
         ensures done { MatchResult result (λ _. cards_of self.new ≡ with_engine (cards_of self.old) numbers) (λ _. self.new ≡ self.old) }
     {
-        if self.has_cards() {
+        if !self.is_empty() {
             return Err(Refusal::OutOfTurn);
         }
         let engine = Engine::new(numbers)?;
@@ -73,7 +73,7 @@ impl Deck {
         if number == 0 || self.uses(number) {
             return Err(Refusal::NumberTaken);
         }
-        if self.cranks.len() >= 4 {
+        if self.cranks.cards().len() >= 4 {
             return Err(Refusal::NoPlace);
         }
         let card = Card::new(&self.engine, parts)?;
@@ -94,7 +94,7 @@ impl Deck {
         if number == 0 || self.uses(number) {
             return Err(Refusal::NumberTaken);
         }
-        if self.timeds.len() >= 16 {
+        if self.timeds.cards().len() >= 16 {
             return Err(Refusal::NoPlace);
         }
         let timed = Timed::new(parts)?;

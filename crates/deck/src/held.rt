@@ -1,5 +1,5 @@
 // How a card is put into its table, changed there, and taken out.
-ghost use Rattle.std.specs.Prelude.{◌≡◌, ◌<◌, length, take, Some, None, MatchResult, slice_get, slice_set, slice_index_or};
+ghost use Rattle.std.specs.Prelude.{◌≡◌, ◌<◌, take, Some, None, MatchResult, slice_get, slice_set, slice_index_or};
 ghost use Rattle.std.specs.List.{remove};
 ghost use Rattle.refusal.specs.Numbers.{refusal_in};
 ghost use Rattle.table.specs.Ordered.{insert_by};
@@ -14,12 +14,6 @@ use refusal::Refusal;
 use table::{insert, remove};
 
 impl CrankTable {
-    pub(crate) fn len(&self) -> usize
-        ensures { result ≡ length (cranks_in self.now) }
-    {
-        self.used
-    }
-
     // The cards in use.
     pub(crate) fn cards(&self) -> &[CrankCard]
         ensures { result.now ≡ take self.now.used self.now.table }
@@ -65,12 +59,6 @@ impl CrankTable {
 }
 
 impl TimedTable {
-    pub(crate) fn len(&self) -> usize
-        ensures { result ≡ length (clocks_in self.now) }
-    {
-        self.used
-    }
-
     // The cards in use.
     pub(crate) fn cards(&self) -> &[TimedCard]
         ensures { result.now ≡ take self.now.used self.now.table }

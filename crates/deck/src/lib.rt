@@ -8,7 +8,7 @@ pub mod judging;
 pub mod places;
 pub mod rungs;
 pub mod tables;
-pub mod task_card;
+mod task_card;
 pub mod telling;
 pub mod verdict;
 pub mod worked;

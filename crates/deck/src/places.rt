@@ -1,5 +1,5 @@
 // How a card is found in a deck, put in, changed and taken out.
-ghost use Rattle.std.specs.Prelude.{◌≡◌, ◌<◌, true, false, MatchResult};
+ghost use Rattle.std.specs.Prelude.{◌≡◌, ◌<◌, true, false, not, MatchResult};
 ghost use Rattle.refusal.specs.Numbers.{refusal_in};
 ghost use Rattle.engine.specs.Views.{numbers_of};
 ghost use Rattle.deck.specs.Tables.{right_card, crank_of, clock_of};
@@ -33,11 +33,11 @@ impl Deck {
         self.place(number).is_some()
     }
 
-    // Whether any card stands in the deck.
-    pub(crate) fn has_cards(&self) -> bool
-        ensures { result ≡ cards_present (cards_of self.now) }
+    // Whether no card stands in the deck.
+    pub(crate) fn is_empty(&self) -> bool
+        ensures { result ≡ not (cards_present (cards_of self.now)) }
     {
-        !(self.cranks.len() == 0 && self.timeds.len() == 0)
+        self.cranks.cards().is_empty() && self.timeds.cards().is_empty()
     }
 
     // Another engine, in a deck without cards.

@@ -13,7 +13,7 @@ use task::kinds::Timed;
 use task::layers::{Entry, Shared};
 
 // A card that is a task, with an engine that it is right for.
-pub trait TaskCard {
+pub(crate) trait TaskCard {
     type Kind: Task + Drop;
 
     ghost right: { Numbers → Self → Bool };

@@ -32,14 +32,18 @@ impl Deck {
             return greatest_walk(guest, window, work, jobs);
         }
         match self.place(number) {
-            Some(Place::Crank(at)) => {
-                let card = &self.cranks.table[at];
-                greatest_walk(&card.task(&self.engine), window, work, jobs)
-            },
-            Some(Place::Timed(at)) => {
-                let card = &self.timeds.table[at];
-                greatest_walk(&card.task(&self.engine), window, work, jobs)
-            },
+            Some(Place::Crank(at)) => greatest_walk(
+                &self.cranks.table[at].task(&self.engine),
+                window,
+                work,
+                jobs,
+            ),
+            Some(Place::Timed(at)) => greatest_walk(
+                &self.timeds.table[at].task(&self.engine),
+                window,
+                work,
+                jobs,
+            ),
             None => Err(Refusal::NoSuchCard),
         }
     }
