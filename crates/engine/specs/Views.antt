@@ -1,5 +1,6 @@
 -- Engines and engine cards as plain numbers and lists, and when a card is right for an engine.
-use Rattle.std.specs.Prelude.{◌≡◌, ℕ, Bool, true, ◌&&◌, List, length, take, nat_le}
+use Rattle.std.specs.Prelude.{◌≡◌, ℕ, Bool, true, ◌&&◌, List, length, nat_le}
+use Rattle.table.specs.Few.{items_of}
 use Rattle.engine.specs.declared.engine.Engine.{Engine}
 pub use Rattle.engine.specs.declared.numbers.Numbers.{Numbers}
 use Rattle.engine.specs.declared.card.Mode.{Mode}
@@ -21,10 +22,10 @@ pub record Parts : Type 0 where
   pub bands : List ℕ
 
 abbrev pub modes_of : Card → List Mode
-modes_of c = take c.modes.used c.modes.table
+modes_of c = items_of c.modes
 
 abbrev pub bands_of : Card → List ℕ
-bands_of c = take c.bands.used c.bands.table
+bands_of c = items_of c.bands
 
 abbrev pub parts_of : Card → Parts
 parts_of c = record { angle = c.angle; modes = modes_of c; bands = bands_of c }

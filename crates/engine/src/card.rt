@@ -1,7 +1,6 @@
 // Engine cards: what is injected at which crank speed.
-ghost use Rattle.std.specs.Prelude.{◌≡◌, ◌≤◌, length};
-
 use table::Keyed;
+use table::few::Few;
 
 // From a lower speed up to the next mode's, a job costs this many ticks.
 #[derive(Clone, Copy)]
@@ -19,30 +18,13 @@ impl Keyed for Mode {
     }
 }
 
-// The modes of a card: the first cells of a table.
-#[derive(Clone, Copy)]
-pub struct ModeList {
-    pub table: [Mode; 8],
-    pub used: usize,
-    ghost whole: { length table ≡ 8 },
-    ghost few: { used ≤ 8 },
-}
-
-// The lower speeds of a card's bands: the first cells of a table.
-#[derive(Clone, Copy)]
-pub struct BandList {
-    pub table: [u32; 24],
-    pub used: usize,
-    ghost whole: { length table ≡ 24 },
-    ghost few: { used ≤ 24 },
-}
-
 // An engine card without its number and its share: an angle of the crank, modes and bands.
 #[derive(Clone, Copy)]
 pub struct Card {
     pub angle: u32,
-    pub modes: ModeList,
-    pub bands: BandList,
+    pub modes: Few<Mode, 8>,
+    // the lower speeds of the bands
+    pub bands: Few<u32, 24>,
 }
 
 // The parts of an engine card as a caller gives them, before they are checked.

@@ -1,91 +1,28 @@
 // How an engine card is made, and how one of its modes or bands is changed.
 ghost use Rattle.std.specs.Prelude.{◌≡◌, ◌<◌, ◌≤◌, length, take, IfOk, MatchResult};
 ghost use Rattle.refusal.specs.Numbers.{refusal_in};
-ghost use Rattle.engine.specs.Views.{numbers_of, parts_of, parts_given};
+ghost use Rattle.engine.specs.Views.{numbers_of, bands_of, parts_of, parts_given};
 ghost use Rattle.table.specs.Ordered.{insert_by};
 ghost use Rattle.engine.specs.Changes.{card_refusal, cut_refusal, cut_wrong, cut, recost_refusal, recost, holds_number};
 
-use crate::card::{BandList, Card, CardParts, Mode, ModeList};
+use crate::card::{Card, CardParts, Mode};
 use crate::checks::{angle_right, bands_right, cost_right, modes_right};
 use crate::engine::Engine;
 use refusal::Refusal;
-use table::{find, insert};
+use table::few::Few;
 
-// Copies a list to the front of a table.
-fn load<T: Copy>(table: &mut [T], items: &[T])
-    requires { length items.now ≤ length table.old }
-    ensures { take (length items.now) table.new ≡ items.now }
-{
-    for i in 0..items.len() {
-        table[i] = items[i];
-    }
-}
-
-fn mode_list(modes: &[Mode]) -> ModeList
-    requires { length modes.now ≤ 8 }
-    ensures { take result.used result.table ≡ modes.now }
-{
-    let mut table = [Mode { lower: 0, cost: 0 }; 8];
-    load(&mut table, modes);
-    ModeList {
-        table,
-        used: modes.len(),
-    }
-}
-
-fn band_list(bands: &[u32]) -> BandList
-    requires { length bands.now ≤ 24 }
-    ensures { take result.used result.table ≡ bands.now }
-{
-    let mut table = [0; 24];
-    load(&mut table, bands);
-    BandList {
-        table,
-        used: bands.len(),
-    }
-}
-
-impl ModeList {
-    pub fn len(&self) -> usize
-        ensures { result ≡ length (take self.now.used self.now.table) }
-    {
-        self.used
-    }
-}
-
-impl BandList {
-    pub(crate) fn len(&self) -> usize
-        ensures { result ≡ length (take self.now.used self.now.table) }
-    {
-        self.used
-    }
-
-    // Whether a band begins at this speed.
-    fn begins_at(&self, speed: u32) -> bool
-        ensures { result ≡ holds_number speed (take self.now.used self.now.table) }
-    {
-        find(&self.table, self.used, speed).is_some()
-    }
-
-    // One more band, at its place by speed.
-    fn add(&mut self, speed: u32)
-        requires { self.old.used < 24 }
-        ensures { take self.new.used self.new.table ≡ insert_by (λ b. b) speed (take self.old.used self.old.table) }
-    {
-        insert(&mut self.table, self.used, speed);
-        self.used += 1;
-    }
-}
+// What fills the cells of a mode table that are not in use.
+const NO_MODE: Mode = Mode { lower: 0, cost: 0 };
 
 impl Card {
     // A card of no parts, which is right for no engine.
     pub const BLANK: Card = Card {
         angle: 0,
-        modes: ModeList {
-            table: [Mode { lower: 0, cost: 0 }; 8],
+        modes: Few {
+            table: [NO_MODE; 8],
             used: 0,
         },
-        bands: BandList {
+        bands: Few {
             table: [0; 24],
             used: 0,
         },
@@ -107,9 +44,16 @@ impl Card {
         }
         Ok(Card {
             angle: parts.angle,
-            modes: mode_list(parts.modes),
-            bands: band_list(parts.bands),
+            modes: Few::from_slice(NO_MODE, parts.modes),
+            bands: Few::from_slice(0, parts.bands),
         })
+    }
+
+    // Whether a band begins at this speed.
+    fn has_band_at(&self, speed: u32) -> bool
+        ensures { result ≡ holds_number speed (bands_of self.now) }
+    {
+        self.bands.as_slice().contains(&speed)
     }
 
     // Whether no cut can be made at this speed.
@@ -117,7 +61,7 @@ impl Card {
         ensures { result ≡ cut_wrong (numbers_of engine.now) (parts_of self.now) speed }
     {
         let inside = engine.least < speed && speed < engine.greatest;
-        !inside || self.bands.begins_at(speed) || self.bands.len() >= 24
+        !inside || self.has_band_at(speed) || self.bands.len() >= 24
     }
 
     // Splits at a speed the band that holds it.
@@ -128,7 +72,7 @@ impl Card {
         if self.is_wrong_cut(engine, speed) {
             return Err(Refusal::BandList);
         }
-        self.bands.add(speed);
+        self.bands.insert(speed);
         Ok(())
     }
 

@@ -1,7 +1,10 @@
 -- The rule of the ladder, tested at each entry of a table by one test that antt computes.
-use Rattle.std.proofs.Common.{◌≡◌, ℕ, zero, suc, ◌+◌, ◌*◌, ◌<◌, ◌≤◌, Bool, true, ◌&&◌, ltb, leb, List, [], ◌∷◌, length, get_or, sym, ◌∙◌, subst, le_of_suc-le-suc, not-suc-le-zero, add-zero, add-suc, suc-add, zero-add, arith}
+use Rattle.std.proofs.Common.{◌≡◌, ℕ, zero, suc, ◌+◌, ◌*◌, ◌<◌, ◌≤◌, Bool, true, ◌&&◌, ltb, leb, List, [], ◌∷◌, length, get_or, Some, None, Option, Bor, sym, ◌∙◌, subst, le_of_suc-le-suc, not-suc-le-zero, add-zero, add-suc, suc-add, zero-add, arith}
 use Rattle.std.proofs.lemmas.Bool.{and_parts, leb-true, ltb-true}
-use Rattle.ladder.specs.Rungs.{rung_square, IsRung}
+use Rattle.std.specs.Slice.{IsItemAt}
+use Rattle.std.specs.Option.{option_copied}
+use Rattle.ladder.specs.Rungs.{rung_square, rung_speed, IsRung, OnLadder}
+use Rattle.ladder.proofs.Roots.{speed_some, speed_none}
 
 -- v is the speed of rung n
 abbrev pub fits : ℕ → ℕ → Bool
@@ -26,3 +29,21 @@ rung_in vs t e n h =
     let fit = subst (λ m. fits m v ≡ true) (zero-add n) (fit_from vs 0 t n (omega (arith, e, h))) in
     let both = and_parts (leb (v * v) (rung_square n)) (ltb (rung_square n) ((v + 1) * (v + 1))) fit in
     record { within = leb-true (v * v) (rung_square n) both.0; next_past = ltb-true (rung_square n) ((v + 1) * (v + 1)) both.1 }
+
+-- so what is read of such a table, at any number, is what the ladder has there
+module _ (vs : List ℕ) (n : ℕ) (r : Option (Bor ℕ)) (v : Option ℕ) (copied : v ≡ option_copied r) (t : all_fit 0 vs ≡ true) (e : length vs ≡ 281) (at : IsItemAt vs n r) where
+  pub greatest_read : OnLadder n v
+  greatest_read = subst (OnLadder n) (sym copied) (reads r at)
+    where
+      reads : (s : Option (Bor ℕ)) → IsItemAt vs n s → OnLadder n (option_copied s)
+      reads None past = omega arith
+      reads (Some x) here =
+          let low : n ≤ 280 = omega arith in
+          (low, subst (IsRung n) (sym (here.4 (omega arith) 0)) (rung_in vs t e n low))
+
+  pub speed_read : v ≡ rung_speed n
+  speed_read = the_speed v greatest_read
+    where
+      the_speed : (w : Option ℕ) → OnLadder n w → w ≡ rung_speed n
+      the_speed None past = speed_none n past
+      the_speed (Some w) rung = speed_some n w rung.0 rung.1

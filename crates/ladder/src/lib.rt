@@ -34,8 +34,5 @@ pub fn rung(n: u32) -> Option<u32>
     ensures value { result ≡ rung_speed n }
     ensures greatest { OnLadder n result }
 {
-    if n > 280 {
-        return None;
-    }
-    Some(LADDER[n as usize])
+    LADDER.get(n as usize).copied()
 }

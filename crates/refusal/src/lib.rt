@@ -3,35 +3,35 @@
 ghost use Rattle.std.specs.Prelude.{◌≡◌};
 ghost use Rattle.refusal.specs.Numbers.{number as numbered};
 
-// Why a call, or the reading of a plan file, was refused.
+// Why a call, or the reading of a plan file, was refused, with the number by which users know it.
 #[derive(Clone, Copy, PartialEq, Eq, Debug)]
 pub enum Refusal {
     // an engine outside its limits
-    EngineLimits,
+    EngineLimits = 1,
     // a card number that is 0 or in use
-    NumberTaken,
+    NumberTaken = 2,
     // no place for this sort of card
-    NoPlace,
+    NoPlace = 3,
     // an angle outside its limits
-    AngleLimits,
+    AngleLimits = 4,
     // a mode list that is wrong, or an index without a mode
-    ModeList,
+    ModeList = 5,
     // a band list that is wrong, or a cut that cannot be made
-    BandList,
+    BandList = 6,
     // a share, a period, a deadline or a cost outside its limits
-    ValueLimits,
+    ValueLimits = 7,
     // no card of this number
-    NoSuchCard,
+    NoSuchCard = 8,
     // a horizon outside its limits
-    HorizonLimits,
+    HorizonLimits = 9,
     // lent memory that is too short, or an input that is too long
-    ShortMemory,
+    ShortMemory = 10,
     // a record kind that is unknown
-    UnknownKind,
+    UnknownKind = 11,
     // a record or a card that is cut short
-    CutShort,
+    CutShort = 12,
     // a record out of turn, or an engine where cards are present
-    OutOfTurn,
+    OutOfTurn = 13,
 }
 
 impl Refusal {
@@ -39,20 +39,14 @@ impl Refusal {
     pub fn number(self) -> u8
         ensures { result ≡ numbered self }
     {
-        match self {
-            Refusal::EngineLimits => 1,
-            Refusal::NumberTaken => 2,
-            Refusal::NoPlace => 3,
-            Refusal::AngleLimits => 4,
-            Refusal::ModeList => 5,
-            Refusal::BandList => 6,
-            Refusal::ValueLimits => 7,
-            Refusal::NoSuchCard => 8,
-            Refusal::HorizonLimits => 9,
-            Refusal::ShortMemory => 10,
-            Refusal::UnknownKind => 11,
-            Refusal::CutShort => 12,
-            Refusal::OutOfTurn => 13,
-        }
+        self as u8
+    }
+}
+
+impl From<Refusal> for u8 {
+    ghost from_gives = { λ refusal n. n ≡ numbered refusal };
+
+    fn from(refusal: Refusal) -> u8 {
+        refusal.number()
     }
 }

@@ -19,16 +19,15 @@ module _ {X : Type 0} (key : X → ℕ) where
       cond-false (ltb (key x) (key y)) _ _ (le-ltb (key x) (key y) (b 0 y (omega arith)))
       ∙ ap (λ l. y ∷ l) (insert_by_at x ys i (omega arith) (λ j d l. b (suc j) d (omega arith)) (λ l. n (omega arith)))
 
-  -- the same of the first `used` items, with what is said read from the whole table
+  -- the same of the items in use, with the key given as k
   pub insert_by_used :
-      (x : X) (k used : ℕ) (xs : List X) (i : ℕ) → k ≡ key x → used ≤ length xs → i ≤ used → ((j : ℕ) (d : X) → j < i → key (get_or xs j d) ≤ k) → (i < used → (d : X) → k < key (get_or xs i d)) → insert_by key x (take used xs) ≡ insert (take used xs) i x
+      (x : X) (k used : ℕ) (xs : List X) (i : ℕ) → k ≡ key x → used ≤ length xs → i ≤ used → ((j : ℕ) (d : X) → j < i → key (get_or (take used xs) j d) ≤ k) → (i < used → (d : X) → k < key (get_or (take used xs) i d)) → insert_by key x (take used xs) ≡ insert (take used xs) i x
   insert_by_used x k used xs i e u h b n =
-      insert_by_at x (take used xs) i (simp length-take (omega arith))
-      (λ j d l. let a = b j d l in let t = ap key (get_or-take used xs j d (omega arith)) in omega arith)
+      insert_by_at x (take used xs) i (simp length-take (omega arith)) (λ j d l. let a = b j d l in omega arith)
       (λ l d.
       let m : i < min used (length xs) = simp length-take at l in
       let v : i < used = omega arith in
-      let a = n v d in let t = ap key (get_or-take used xs i d v) in omega arith)
+      let a = n v d in omega arith)
 
   pub length_insert_by : (x : X) (xs : List X) → length (insert_by key x xs) ≡ length xs + 1
   length_insert_by x [] = refl
