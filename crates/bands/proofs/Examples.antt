@@ -1,9 +1,11 @@
 -- The worked rows hold, and the worked cards are right for their engines.
-use Rattle.std.proofs.Common.{◌≡◌, ℕ, ◌+◌, ◌≤◌, true, false, List, [], ◌∷◌, ◌++◌, Some, None, Option, refl, ap₂, lit<, lit≤}
+use Rattle.std.proofs.Common.{◌≡◌, ℕ, ◌+◌, ◌≤◌, true, false, List, [], ◌∷◌, ◌++◌, Some, None, Option, refl, ap₂, arith, lit≤}
 use Rattle.std.specs.List.{AllByRecursion as All}
 use Rattle.task.specs.Walks.{ticks}
 use Rattle.task.specs.Graph.{Lawful}
-use Rattle.engine.specs.Views.{house_engine}
+use Rattle.std.proofs.lemmas.Bool.Decides.{nat_tests}
+use Rattle.engine.specs.Limits.{engine_ok, angle_ok, bands_ok}
+use Rattle.engine.specs.Views.{Numbers, Parts, modes_ok, house_engine}
 use Rattle.bands.specs.Laws.Ready.{Ready}
 use Rattle.bands.specs.Gaps.{Pair, has_gap, allows, gap_value}
 use Rattle.bands.specs.Graphs.{pair_at, lesser}
@@ -114,53 +116,26 @@ pub worked : Worked
 worked = all_both Holds (two_rows ++ three_rows) far_rows (all_both Holds two_rows three_rows two_hold three_hold) far_hold
 
 -- ---- the cards are right, so their graphs are lawful
-pub two_right : Ready small_engine two_bands
-two_right = record {
-  angle = refl;
-  modes = refl;
-  bands = refl;
-  turns = lit≤ tt;
-  varies = lit< tt;
-  bounded = lit≤ tt;
-  rises = lit≤ tt;
-  sharpest = lit≤ tt;
-  falls = lit≤ tt;
-  hardest = lit≤ tt;
-}
-
-pub three_right : Ready small_engine (three_bands 1000)
-three_right = record {
-  angle = refl;
-  modes = refl;
-  bands = refl;
-  turns = lit≤ tt;
-  varies = lit< tt;
-  bounded = lit≤ tt;
-  rises = lit≤ tt;
-  sharpest = lit≤ tt;
-  falls = lit≤ tt;
-  hardest = lit≤ tt;
-}
-
-pub house_right : Ready house_engine house_bands
-house_right = record {
-  angle = refl;
-  modes = refl;
-  bands = refl;
-  turns = lit≤ tt;
-  varies = lit< tt;
-  bounded = lit≤ tt;
-  rises = lit≤ tt;
-  sharpest = lit≤ tt;
-  falls = lit≤ tt;
-  hardest = lit≤ tt;
+ready : (e : Numbers) (c : Parts) → engine_ok e.least e.greatest e.rise e.fall e.entry ≡ true → angle_ok e.greatest c.angle ≡ true → modes_ok e.least e.greatest c.modes ≡ true → bands_ok e.least e.greatest c.bands ≡ true → Ready e c
+ready e c limits angle modes bands = record {
+  angle = angle;
+  modes = modes;
+  bands = bands;
+  turns = grind (arith, nat_tests);
+  varies = grind (arith, nat_tests);
+  bounded = grind (arith, nat_tests);
+  rises = grind (arith, nat_tests);
+  sharpest = grind (arith, nat_tests);
+  falls = grind (arith, nat_tests);
+  hardest = grind (arith, nat_tests);
 }
 
 pub two_lawful : Lawful two_graph
-two_lawful = bands_lawful small_engine two_bands two_right
+two_lawful = bands_lawful small_engine two_bands (ready small_engine two_bands refl refl refl refl)
 
 pub three_lawful : Lawful three_graph
-three_lawful = bands_lawful small_engine (three_bands 1000) three_right
+three_lawful =
+    bands_lawful small_engine (three_bands 1000) (ready small_engine (three_bands 1000) refl refl refl refl)
 
 pub house_lawful : Lawful house_graph
-house_lawful = bands_lawful house_engine house_bands house_right
+house_lawful = bands_lawful house_engine house_bands (ready house_engine house_bands refl refl refl refl)

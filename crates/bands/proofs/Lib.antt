@@ -1,3 +1,3 @@
-pub mod Bounds
+pub mod Least
 pub mod Examples
 pub mod TurnsExamples

@@ -1,6 +1,7 @@
 pub mod Gaps
 pub mod Graphs
 pub mod Rules
+pub mod Views
 pub mod Turns
 pub mod Examples
 pub mod Drives

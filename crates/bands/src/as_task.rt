@@ -19,7 +19,7 @@ impl Task for Bands {
     ghost follows = { λ b k js o l. drives_follow (numbers_of b.engine) (parts_of b.card) (ready_of b) k o js l };
 
     fn places(&self) -> usize {
-        self.count()
+        self.card.bands.len()
     }
 
     fn cost(&self, place: usize) -> u32 {

@@ -1,7 +1,7 @@
 // The gap from one band to another, in whole numbers.
-ghost use Rattle.std.specs.Prelude.{◌≡◌, ◌+◌, ◌*◌, ◌<◌, ◌≤◌, true};
-ghost use Rattle.bands.specs.Gaps.{square, has_gap, rule_1, rule_2, rule_3, peak, allows_1, allows_2, allows_3, allows_4, allows, GapByRules, gap_value};
-ghost use Rattle.bands.specs.Rules.{lacks, Last, Fits, pair_of};
+ghost use Rattle.std.specs.Prelude.{◌≡◌, ◌+◌, ◌*◌, ◌<◌, ◌≤◌};
+ghost use Rattle.bands.specs.Gaps.{square};
+ghost use Rattle.bands.specs.Rules.{Fits};
 
 // A band: its number, counted from 1, and its two ends.
 #[derive(Clone, Copy)]
@@ -21,6 +21,7 @@ pub(crate) struct Turn {
     pub(crate) top: u64,
     pub(crate) from: Band,
     pub(crate) to: Band,
+    ghost fits: { Fits (record { A = rise; D = fall; G = angle; M = top; i = from.number; j = to.number; li = from.low; ui = from.high; lj = to.low; uj = to.high }) },
 }
 
 fn squared(n: u64) -> u64
@@ -29,68 +30,6 @@ fn squared(n: u64) -> u64
     ensures most { result ≤ 22500000000 }
 {
     n * n
-}
-
-// The square of the speed after a turn at a steady rate, from this speed.
-fn reached(speed: u64, rate: u64, angle: u64) -> u64
-    requires speeds { speed ≤ 150000 }
-    requires rates { rate ≤ 500 }
-    requires angles { angle ≤ 24000000 }
-    ensures value { result ≡ square speed + 2 * rate * angle }
-    ensures most { result ≤ 46500000000 }
-{
-    squared(speed) + 2 * rate * angle
-}
-
-// Whether some turn leads from the one band to the other.
-fn leads(turn: Turn) -> bool
-    requires { Fits (pair_of turn) }
-    ensures { result ≡ has_gap (pair_of turn) }
-{
-    if turn.from.number < turn.to.number {
-        squared(turn.to.low) < reached(turn.from.high, turn.rise, turn.angle)
-    } else if turn.to.number < turn.from.number {
-        squared(turn.from.low) < reached(turn.to.high, turn.fall, turn.angle)
-    } else {
-        true
-    }
-}
-
-// Upward, a turn flat out stays at or below the upper end.
-fn rises_within(turn: Turn) -> bool
-    requires { Fits (pair_of turn) }
-    ensures { result ≡ rule_1 (pair_of turn) }
-{
-    turn.from.number < turn.to.number
-        && reached(turn.from.high, turn.rise, turn.angle) <= squared(turn.to.high)
-}
-
-// Downward, the same in mirror image.
-fn falls_within(turn: Turn) -> bool
-    requires { Fits (pair_of turn) }
-    ensures { result ≡ rule_2 (pair_of turn) }
-{
-    turn.to.number < turn.from.number
-        && reached(turn.to.high, turn.fall, turn.angle) <= squared(turn.from.high)
-}
-
-// (rise + fall) times the square of the peak speed of a turn that rises flat out and then falls.
-fn peak_of(turn: Turn) -> u64
-    requires { Fits (pair_of turn) }
-    ensures value { result ≡ peak (pair_of turn) }
-    ensures most { result ≤ 34500000000000 }
-{
-    let from = turn.fall * squared(turn.from.high);
-    let to = turn.rise * squared(turn.to.high);
-    2 * turn.rise * turn.fall * turn.angle + from + to
-}
-
-// That peak is within the greatest speed.
-fn peaks_within(turn: Turn) -> bool
-    requires { Fits (pair_of turn) }
-    ensures { result ≡ rule_3 (pair_of turn) }
-{
-    peak_of(turn) <= (turn.rise + turn.fall) * squared(turn.top)
 }
 
 // The greatest number of steps from a base whose square is at most the bound.
@@ -103,79 +42,152 @@ fn most_steps(bound: u64, step: u64, base: u64) -> u64
     (bound.isqrt() - base) / step
 }
 
-// Rule 1: flat out from the upper end of the first band.
-fn rising_ticks(turn: Turn) -> u64
-    requires { Fits (pair_of turn) }
-    ensures { Last (allows_1 (pair_of turn)) result }
-{
-    let bound = reached(turn.from.high, turn.rise, turn.angle);
-    most_steps(bound, turn.rise, turn.from.high)
-}
+impl Turn {
+    ghost use Rattle.std.specs.Prelude.{nat_lt};
+    ghost use Rattle.bands.specs.Gaps.{has_gap, rule_1, rule_2, rule_3, peak, allows_1, allows_2, allows_3, allows_4, allows, GapByRules, gap_value};
+    ghost use Rattle.bands.specs.Rules.{lacks, mirrored, Last};
+    ghost use Rattle.bands.specs.Views.{pair_of};
 
-// Rule 2: its mirror image.
-fn falling_ticks(turn: Turn) -> u64
-    requires { Fits (pair_of turn) }
-    ensures { Last (allows_2 (pair_of turn)) result }
-{
-    let bound = reached(turn.to.high, turn.fall, turn.angle);
-    most_steps(bound, turn.fall, turn.to.high)
-}
-
-// Rule 3: up to a peak, and down again.
-fn peaked_ticks(turn: Turn) -> u64
-    requires { Fits (pair_of turn) }
-    ensures { Last (allows_3 (pair_of turn)) result }
-{
-    let bound = (turn.rise + turn.fall) * peak_of(turn);
-    let base = turn.fall * turn.from.high + turn.rise * turn.to.high;
-    most_steps(bound, turn.rise * turn.fall, base)
-}
-
-// What the two bands lack of the greatest speed, squared and weighed.
-fn lacking(turn: Turn) -> u64
-    requires { Fits (pair_of turn) }
-    ensures value { result ≡ lacks (pair_of turn) }
-    ensures most { result ≤ 22500000000000 }
-{
-    let from = turn.fall * squared(turn.top - turn.from.high);
-    let to = turn.rise * squared(turn.top - turn.to.high);
-    from + to
-}
-
-// Rule 4: up to the greatest speed, and down again.
-fn capped_ticks(turn: Turn) -> u64
-    requires { Fits (pair_of turn) }
-    ensures { Last (allows_4 (pair_of turn)) result }
-{
-    let twice = 2 * turn.rise * turn.fall;
-    (twice * turn.angle + lacking(turn)) / (twice * turn.top)
-}
-
-// The greatest number of ticks that the first applying rule allows.
-fn most_ticks(turn: Turn) -> u64
-    requires { Fits (pair_of turn) }
-    ensures { Last (allows (pair_of turn)) result }
-{
-    if rises_within(turn) {
-        rising_ticks(turn)
-    } else if falls_within(turn) {
-        falling_ticks(turn)
-    } else if peaks_within(turn) {
-        peaked_ticks(turn)
-    } else {
-        capped_ticks(turn)
+    // The same turn seen backward, from its end to its start: a rise is then a fall.
+    fn mirrored(&self) -> Turn
+        ensures { pair_of result ≡ mirrored (pair_of self.now) }
+    {
+        Turn {
+            rise: self.fall,
+            fall: self.rise,
+            angle: self.angle,
+            top: self.top,
+            from: self.to,
+            to: self.from,
+        }
     }
-}
 
-// The least whole number of ticks between the starts of two turns, from the one band to the other.
-pub(crate) fn gap(turn: Turn) -> Option<u32>
-    requires { Fits (pair_of turn) }
-    ensures value { result ≡ gap_value (pair_of turn) }
-    ensures rules { GapByRules (pair_of turn) result }
-{
-    if leads(turn) {
-        Some(most_ticks(turn) as u32)
-    } else {
-        None
+    // The square of the speed after a turn flat out from the upper end of the first band.
+    fn flat_out(&self) -> u64
+        ensures value { result ≡ square self.now.from.high + 2 * self.now.rise * self.now.angle }
+        ensures most { result ≤ 46500000000 }
+    {
+        squared(self.from.high) + 2 * self.rise * self.angle
+    }
+
+    // Whether a turn flat out from the first band gets above the lower end of the second.
+    fn climbs(&self) -> bool
+        ensures { result ≡ nat_lt (square self.now.to.low) (square self.now.from.high + 2 * self.now.rise * self.now.angle) }
+    {
+        squared(self.to.low) < self.flat_out()
+    }
+
+    // Whether some turn leads from the one band to the other.
+    fn leads(&self) -> bool
+        ensures { result ≡ has_gap (pair_of self.now) }
+    {
+        if self.from.number < self.to.number {
+            self.climbs()
+        } else if self.to.number < self.from.number {
+            self.mirrored().climbs()
+        } else {
+            true
+        }
+    }
+
+    // Upward, a turn flat out stays at or below the upper end.
+    fn rises_within(&self) -> bool
+        ensures { result ≡ rule_1 (pair_of self.now) }
+    {
+        self.from.number < self.to.number && self.flat_out() <= squared(self.to.high)
+    }
+
+    // Rule 1: flat out from the upper end of the first band.
+    fn rising_ticks(&self) -> u64
+        ensures { Last (allows_1 (pair_of self.now)) result }
+    {
+        most_steps(self.flat_out(), self.rise, self.from.high)
+    }
+
+    // A number of the first band and one of the second, weighed by the fall and by the rise.
+    fn weighed(&self, from: u64, to: u64) -> u64
+        requires first { from ≤ 22500000000 }
+        requires second { to ≤ 22500000000 }
+        ensures value { result ≡ self.now.fall * from + self.now.rise * to }
+        ensures most { result ≤ 22500000000000 }
+    {
+        self.fall * from + self.rise * to
+    }
+
+    // (rise + fall) times the square of the peak speed of a turn that rises flat out and then falls.
+    fn peak(&self) -> u64
+        ensures value { result ≡ peak (pair_of self.now) }
+        ensures most { result ≤ 34500000000000 }
+    {
+        let ends = self.weighed(squared(self.from.high), squared(self.to.high));
+        2 * self.rise * self.fall * self.angle + ends
+    }
+
+    // That peak is within the greatest speed.
+    fn peaks_within(&self) -> bool
+        ensures { result ≡ rule_3 (pair_of self.now) }
+    {
+        self.peak() <= (self.rise + self.fall) * squared(self.top)
+    }
+
+    // Rule 3: up to a peak, and down again.
+    fn peaked_ticks(&self) -> u64
+        ensures { Last (allows_3 (pair_of self.now)) result }
+    {
+        let bound = (self.rise + self.fall) * self.peak();
+        most_steps(
+            bound,
+            self.rise * self.fall,
+            self.weighed(self.from.high, self.to.high),
+        )
+    }
+
+    // What the two bands lack of the greatest speed, squared and weighed.
+    fn lacking(&self) -> u64
+        ensures value { result ≡ lacks (pair_of self.now) }
+        ensures most { result ≤ 22500000000000 }
+    {
+        self.weighed(
+            squared(self.top - self.from.high),
+            squared(self.top - self.to.high),
+        )
+    }
+
+    // Rule 4: up to the greatest speed, and down again.
+    fn capped_ticks(&self) -> u64
+        ensures { Last (allows_4 (pair_of self.now)) result }
+    {
+        let twice = 2 * self.rise * self.fall;
+        (twice * self.angle + self.lacking()) / (twice * self.top)
+    }
+
+    // The greatest number of ticks that the first applying rule allows. Rule 2 is rule 1 of the
+    // turn seen backward.
+    fn most_ticks(&self) -> u64
+        ensures { Last (allows (pair_of self.now)) result }
+    {
+        let backward = self.mirrored();
+        if self.rises_within() {
+            self.rising_ticks()
+        } else if backward.rises_within() {
+            backward.rising_ticks()
+        } else if self.peaks_within() {
+            self.peaked_ticks()
+        } else {
+            self.capped_ticks()
+        }
+    }
+
+    // The least whole number of ticks between the starts of two turns, from the one band to the
+    // other.
+    pub(crate) fn gap(&self) -> Option<u32>
+        ensures value { result ≡ gap_value (pair_of self.now) }
+        ensures rules { GapByRules (pair_of self.now) result }
+    {
+        if self.leads() {
+            Some(self.most_ticks() as u32)
+        } else {
+            None
+        }
     }
 }

@@ -2,11 +2,15 @@
 use Rattle.std.specs.Prelude.{◌≡◌, ℕ, Bool, true, ◌&&◌, List, length, nat_le}
 use Rattle.table.specs.Few.{items_of}
 use Rattle.engine.specs.declared.engine.Engine.{Engine}
-pub use Rattle.engine.specs.declared.numbers.Numbers.{Numbers}
+use Rattle.engine.specs.declared.numbers.Numbers as declared
 use Rattle.engine.specs.declared.card.Mode.{Mode}
 use Rattle.engine.specs.declared.card.Card.{Card}
 use Rattle.engine.specs.declared.card.CardParts.{CardParts}
 use Rattle.engine.specs.Limits.{angle_ok, speeds_ok, cost_ok, every, bands_ok}
+
+-- an engine's five numbers, as a caller gives them
+abbrev pub Numbers : Type 0
+Numbers = declared.Numbers
 
 abbrev pub numbers_of : Engine → Numbers
 numbers_of e = record { least = e.least; greatest = e.greatest; rise = e.rise; fall = e.fall; entry = e.entry.ticks }

@@ -1,5 +1,5 @@
 -- The greatest cost of the modes that share a speed with a band.
-use Rattle.std.proofs.Common.{◌≡◌, ℕ, zero, suc, ◌+◌, ◌<◌, ◌≤◌, min, max, Bool, true, false, cond, ◌&&◌, eqb, ltb, leb, List, [], ◌∷◌, length, drop, sym, refl, ap, ◌∙◌, subst, inl, ⊎_elim, add-one, arith}
+use Rattle.std.proofs.Common.{◌≡◌, ℕ, zero, suc, ◌+◌, ◌<◌, ◌≤◌, min, max, Bool, true, false, cond, ◌&&◌, eqb, leb, List, [], ◌∷◌, length, drop, sym, refl, ap, ◌∙◌, subst, inl, ⊎_elim, add-one, arith}
 use Rattle.std.proofs.lemmas.List.{drop_more, drop_all}
 use Rattle.std.proofs.lemmas.Bool.{false≢true, ltb-true, lt-ltb, leb-true, eqb-true, and_parts, cond-true, cond-false, cond_both, cases_lt}
 use Rattle.engine.specs.declared.card.Mode.{Mode}
@@ -7,7 +7,7 @@ use Rattle.engine.specs.Limits.{cost_ok, rising, speeds_ok, every}
 use Rattle.engine.specs.Views.{Numbers, Parts}
 use Rattle.bands.specs.Laws.Ready.{Ready}
 use Rattle.bands.specs.Graphs.{lower_end, upper_end, InRange, next_lower, mode_at, mode_end, Meets, GreatestCost, has_shared_speed, cost_between}
-use Rattle.bands.specs.Laws.Ends.{BandAt, card_ends, band_widens, band_least}
+use Rattle.bands.specs.Laws.Ends.{Rising, rising_parts, BandAt, card_ends, band_widens, band_least}
 
 -- the range of the k-th mode shares a speed with the one from low to high
 abbrev shares : ℕ → ℕ → ℕ → List Mode → ℕ → Bool
@@ -54,7 +54,7 @@ cost_reached M low high (x ∷ xs) h =
     (λ l. first_reached M low high x xs s refl (omega (arith, h, l)))
     (λ l. reached_more M low high x xs (cost_between M low high xs) (cost_reached M low high xs (omega (arith, l))))
 
--- ---- the loop over the modes, at the k-th: what it has so far is `cost`
+-- ---- the greatest cost of the modes from the k-th on, where that of the modes before it is `cost`
 cost_first : (M low high : ℕ) (xs : List Mode) (k : ℕ) → k < length xs → cost_between M low high (drop k xs) ≡ max (cond (has_shared_speed low high (mode_at xs k).lower (mode_end M xs k)) (mode_at xs k).cost 0) (cost_between M low high (drop (k + 1) xs))
 cost_first M low high xs k h = ap (cost_between M low high) (drop_more xs k (record { lower = 0; cost = 0 }) h)
 
@@ -116,35 +116,27 @@ cost_least M low high (x ∷ xs) l t b h =
     (cases_lt low (next_lower M xs))
 
 -- ---- the modes rise
-abbrev Rising : ℕ → ℕ → List Mode → Type 0
-Rising M l xs = rising (λ x. x.lower) M l xs ≡ true
-
-parts : (M l : ℕ) (x : Mode) (xs : List Mode) → Rising M l (x ∷ xs) → (l < x.lower) × Rising M x.lower xs
-parts M l x xs h =
-    let both = and_parts (ltb l x.lower) (rising (λ x. x.lower) M x.lower xs) h in
-    (ltb-true l x.lower both.0, both.1)
-
-next_most : (M l : ℕ) (xs : List Mode) → Rising M l xs → next_lower M xs ≤ M
+next_most : (M l : ℕ) (xs : List Mode) → Rising (λ x. x.lower) M l xs → next_lower M xs ≤ M
 next_most M l [] h = omega arith
-next_most M l (x ∷ []) h = let k = ltb-true x.lower M (parts M l x [] h).1 in omega (arith, k)
+next_most M l (x ∷ []) h = let k = ltb-true x.lower M (rising_parts (λ x. x.lower) M l x [] h).1 in omega (arith, k)
 next_most M l (x ∷ (y ∷ ys)) h =
-    let p = parts M l x (y ∷ ys) h in
-    let q = parts M x.lower y ys p.1 in
+    let p = rising_parts (λ x. x.lower) M l x (y ∷ ys) h in
+    let q = rising_parts (λ x. x.lower) M x.lower y ys p.1 in
     let k = next_most M x.lower (y ∷ ys) p.1 in
     omega (arith, k, q.0)
 
-next_above : (M l : ℕ) (xs : List Mode) → Rising M l xs → l < next_lower M xs
+next_above : (M l : ℕ) (xs : List Mode) → Rising (λ x. x.lower) M l xs → l < next_lower M xs
 next_above M l [] h = ltb-true l M h
-next_above M l (x ∷ xs) h = (parts M l x xs h).0
+next_above M l (x ∷ xs) h = (rising_parts (λ x. x.lower) M l x xs h).0
 
 abbrev Widens : ℕ → List Mode → ℕ → Type 0
 Widens M xs k =
     ((mode_at xs k).lower < next_lower M (drop (suc k) xs)) × (next_lower M (drop (suc k) xs) ≤ M)
 
-mode_widens : (M : ℕ) (x : Mode) (xs : List Mode) → Rising M x.lower xs → (k : ℕ) → k < length (x ∷ xs) → Widens M (x ∷ xs) k
+mode_widens : (M : ℕ) (x : Mode) (xs : List Mode) → Rising (λ x. x.lower) M x.lower xs → (k : ℕ) → k < length (x ∷ xs) → Widens M (x ∷ xs) k
 mode_widens M x xs h zero b = (next_above M x.lower xs h, next_most M x.lower xs h)
 mode_widens M x [] h (suc k) b = absurd (omega arith)
-mode_widens M x (y ∷ ys) h (suc k) b = mode_widens M y ys (parts M x.lower y ys h).1 k (omega arith)
+mode_widens M x (y ∷ ys) h (suc k) b = mode_widens M y ys (rising_parts (λ x. x.lower) M x.lower y ys h).1 k (omega arith)
 
 -- what a right list of modes has
 record Modes (m M : ℕ) (xs : List Mode) : Type 0 where

@@ -8,46 +8,47 @@ use Rattle.bands.specs.Laws.Ready.{Ready}
 use Rattle.bands.specs.Graphs.{lower_end, upper_end, pair_at}
 use Rattle.bands.specs.Rules.{Fits}
 
-abbrev Rising : ℕ → ℕ → List ℕ → Type 0
-Rising M l xs = rising (λ b. b) M l xs ≡ true
+-- lower speeds that rise from l on and stay below M; after the first of them they rise from there
+abbrev pub Rising : {X : Type 0} → (X → ℕ) → ℕ → ℕ → List X → Type 0
+Rising lower M l xs = rising lower M l xs ≡ true
 
-parts : (M l x : ℕ) (xs : List ℕ) → Rising M l (x ∷ xs) → (l < x) × Rising M x xs
-parts M l x xs h =
-    let both = and_parts (ltb l x) (rising (λ b. b) M x xs) h in
-    (ltb-true l x both.0, both.1)
+pub rising_parts : {X : Type 0} (lower : X → ℕ) (M l : ℕ) (x : X) (xs : List X) → Rising lower M l (x ∷ xs) → (l < lower x) × Rising lower M (lower x) xs
+rising_parts lower M l x xs h =
+    let both = and_parts (ltb l (lower x)) (rising lower M (lower x) xs) h in
+    (ltb-true l (lower x) both.0, both.1)
 
 -- each band ends above where it begins
-rises : (M l : ℕ) (xs : List ℕ) → Rising M l xs → (k : ℕ) → k < length (l ∷ xs) → get_or (l ∷ xs) k 0 < get_or (l ∷ xs) (suc k) M
+rises : (M l : ℕ) (xs : List ℕ) → Rising (λ b. b) M l xs → (k : ℕ) → k < length (l ∷ xs) → get_or (l ∷ xs) k 0 < get_or (l ∷ xs) (suc k) M
 rises M l [] h zero b = ltb-true l M h
 rises M l [] h (suc k) b = omega arith
-rises M l (x ∷ xs) h zero b = (parts M l x xs h).0
-rises M l (x ∷ xs) h (suc k) b = rises M x xs (parts M l x xs h).1 k (omega arith)
+rises M l (x ∷ xs) h zero b = (rising_parts (λ b. b) M l x xs h).0
+rises M l (x ∷ xs) h (suc k) b = rises M x xs (rising_parts (λ b. b) M l x xs h).1 k (omega arith)
 
 -- no end is above M, nor below the first
-below : (M l : ℕ) (xs : List ℕ) → Rising M l xs → (k : ℕ) → get_or (l ∷ xs) k M ≤ M
+below : (M l : ℕ) (xs : List ℕ) → Rising (λ b. b) M l xs → (k : ℕ) → get_or (l ∷ xs) k M ≤ M
 below M l [] h zero = let k = ltb-true l M h in omega arith
 below M l [] h (suc k) = omega arith
 below M l (x ∷ xs) h zero =
-    let p = parts M l x xs h in
+    let p = rising_parts (λ b. b) M l x xs h in
     let k = below M x xs p.1 zero in
     omega arith
-below M l (x ∷ xs) h (suc k) = below M x xs (parts M l x xs h).1 k
+below M l (x ∷ xs) h (suc k) = below M x xs (rising_parts (λ b. b) M l x xs h).1 k
 
-above : (M l : ℕ) (xs : List ℕ) → Rising M l xs → (k : ℕ) → l ≤ get_or (l ∷ xs) k M
+above : (M l : ℕ) (xs : List ℕ) → Rising (λ b. b) M l xs → (k : ℕ) → l ≤ get_or (l ∷ xs) k M
 above M l [] h zero = omega arith
 above M l [] h (suc k) = let k = ltb-true l M h in omega arith
 above M l (x ∷ xs) h zero = omega arith
 above M l (x ∷ xs) h (suc k) =
-    let p = parts M l x xs h in
+    let p = rising_parts (λ b. b) M l x xs h in
     let k = above M x xs p.1 k in
     omega arith
 
 -- a later end is no lower
-climbs : (M l : ℕ) (xs : List ℕ) → Rising M l xs → (k n : ℕ) → k ≤ n → get_or (l ∷ xs) k M ≤ get_or (l ∷ xs) n M
+climbs : (M l : ℕ) (xs : List ℕ) → Rising (λ b. b) M l xs → (k n : ℕ) → k ≤ n → get_or (l ∷ xs) k M ≤ get_or (l ∷ xs) n M
 climbs M l xs h zero n b = above M l xs h n
 climbs M l xs h (suc k) zero b = omega arith
 climbs M l [] h (suc k) (suc n) b = omega arith
-climbs M l (x ∷ xs) h (suc k) (suc n) b = climbs M x xs (parts M l x xs h).1 k n (omega arith)
+climbs M l (x ∷ xs) h (suc k) (suc n) b = climbs M x xs (rising_parts (λ b. b) M l x xs h).1 k n (omega arith)
 
 -- what a list of lower speeds that is right has
 pub record Ends (m M : ℕ) (bs : List ℕ) : Type 0 where

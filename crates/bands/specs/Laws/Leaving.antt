@@ -56,7 +56,7 @@ lesser_reached P (Some x) (Some y) d f g e =
     ⊎_elim (λ l. let s : x ≡ d = omega arith in subst P s (f x refl)) (λ l. let s : y ≡ d = omega arith in subst P s (g y refl))
     (cases_lt x y)
 
--- the loop over the bands takes one more
+-- one band more
 pub leaving_more : (e : Numbers) (c : Parts) (p n : ℕ) → least_leaving e c p (n + 1) ≡ lesser (least_leaving e c p n) (band_gap e c p (n + 1))
 leaving_more e c p n =
     ap (least_leaving e c p) (add-one n) ∙ ap (λ q. lesser (least_leaving e c p n) (band_gap e c p q)) (sym (add-one n))

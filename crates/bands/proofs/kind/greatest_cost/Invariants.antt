@@ -1,7 +1,10 @@
-use Rattle.std.proofs.Common.{◌≡◌, max, drop}
+use Rattle.std.proofs.Common.{◌≡◌, max, length}
 use Rattle.bands.specs.Graphs.{cost_between}
 use Rattle.bands.proofs.kind.greatest_cost.Given as goal
 
-abbrev pub invariant-loop-k : goal.invariant-loop-k
-invariant-loop-k l =
-    max l.cost (cost_between l.top l.low l.high (drop l.k l.modes)) ≡ cost_between l.top l.low l.high l.modes
+abbrev pub invariant-loop-rest : goal.invariant-loop-rest
+invariant-loop-rest l =
+    max l.cost (cost_between l.top l.band.low l.band.high l.rest) ≡ cost_between l.top l.band.low l.band.high l.modes
+
+abbrev pub decreases-loop-rest : goal.decreases-loop-rest
+decreases-loop-rest l = length l.rest
