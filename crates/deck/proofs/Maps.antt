@@ -49,8 +49,8 @@ module _ {X Y : Type 0} (f : X → Y) (key : Y → ℕ) where
       let x = some_item xs j (omega arith) in
       h j x (omega arith) (sym (ap key (get_or-map f xs j x d (omega arith))) ∙ here ∙ sym e))
 
-  pub first_seen : (n used : ℕ) (xs : List X) (i : ℕ) → i < used → First (λ c. key (f c)) n xs i → First key n (map f (take used xs)) i
-  first_seen n used xs i below h =
+  pub first_map : (n used : ℕ) (xs : List X) (i : ℕ) → i < used → First (λ c. key (f c)) n xs i → First key n (map f (take used xs)) i
+  first_map n used xs i below h =
       let first = first_take (λ c. key (f c)) n used xs i below h in
       let long = length-map (take used xs) f in
       let x = some_item (take used xs) i first.0 in (

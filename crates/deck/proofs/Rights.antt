@@ -14,7 +14,7 @@ use Rattle.engine.proofs.Right.{cut_right, recost_right}
 use Rattle.deck.specs.declared.cards.CrankCard.{CrankCard}
 use Rattle.deck.specs.declared.deck.Deck.{Deck}
 use Rattle.deck.specs.Tables.{Crank, right_card, crank_of, cranks_in}
-use Rattle.deck.proofs.Seen.{crank_count, crank_seen}
+use Rattle.deck.proofs.Seen.{count_seen, item_seen}
 use Rattle.deck.specs.Calls.{crank_recosted, crank_cut}
 
 module _ {X : Type 0} (test : X → Bool) (key : X → ℕ) where
@@ -93,9 +93,9 @@ every_at test (x ∷ xs) (suc i) d all h = every_at test xs i d (and_parts (test
 pub crank_right : (d : Deck) (i : ℕ) (x : CrankCard) → i < d.cranks.used → right_card (numbers_of d.engine) (crank_of (get_or d.cranks.table i x)) ≡ true
 crank_right d i x h =
     let e = numbers_of d.engine in
-    let many = crank_count d.cranks in
+    let many = count_seen crank_of d.cranks in
     let ok = every_at (right_card e) (cranks_in d.cranks) i (crank_of x) d.right (omega arith) in
-    subst (λ c. right_card e c ≡ true) (crank_seen d.cranks i x (crank_of x) h) ok
+    subst (λ c. right_card e c ≡ true) (item_seen crank_of d.cranks i x (crank_of x) h) ok
 
 pub cranks_right : (d : Deck) → AllPass (λ c. right_card (numbers_of d.engine) (crank_of c)) (take d.cranks.used d.cranks.table)
 cranks_right d i x h =

@@ -16,8 +16,7 @@ use Rattle.deck.specs.Calls.{crank_at, clock_at, in_use}
 use Rattle.deck.specs.Found.{AtCrank, AtTimed}
 use Rattle.deck.specs.Judging.{crank_graph, clock_graph}
 use Rattle.deck.specs.Telling.{tell_refused, clock_task, crank_task, task_at}
-use Rattle.table.proofs.Ordered.{find_first}
-use Rattle.deck.proofs.Seen.{crank_first, clock_first, crank_seen, clock_seen}
+use Rattle.deck.proofs.Decks.{crank_found, clock_found}
 
 -- a number in use passes the first check
 pub tell_passes : (s : Cards) (n window work jobs : ℕ) → in_use s n ≡ true → walk_refusal window work jobs ≡ tell_refused s n window work jobs
@@ -29,18 +28,14 @@ module _ (d : Deck) (guest : Graph) (n i : ℕ) (other : eqb n 0 ≡ false) wher
   crank_told x at =
       let e = numbers_of d.engine in
       let rest = clock_task e (clock_at (cards_of d) n) guest in
-      let found = find_first (λ c. c.number) n (cranks_in d.cranks) i (crank_of x) (crank_first d.cranks n i at) in
-      ap (crank_graph e) (sym (crank_seen d.cranks i x (crank_of x) at.0))
-      ∙ sym (ap (λ o. crank_task e o rest) found)
+      sym (ap (λ o. crank_task e o rest) (crank_found d n i at x))
       ∙ sym (cond-false (eqb n 0) guest (crank_task e (crank_at (cards_of d) n) rest) other)
 
   pub clock_told : (x : TimedCard) → crank_at (cards_of d) n ≡ None → AtTimed d.timeds n i → clock_graph (numbers_of d.engine) (clock_of (get_or d.timeds.table i x)) ≡ task_at (cards_of d) guest n
   clock_told x none at =
       let e = numbers_of d.engine in
       let rest = clock_task e (clock_at (cards_of d) n) guest in
-      let found = find_first (λ c. c.number) n (clocks_in d.timeds) i (clock_of x) (clock_first d.timeds n i at) in
-      ap (clock_graph e) (sym (clock_seen d.timeds i x (clock_of x) at.0))
-      ∙ sym (ap (λ o. clock_task e o guest) found)
+      sym (ap (λ o. clock_task e o guest) (clock_found d n i at x))
       ∙ sym (ap (λ o. crank_task e o rest) none)
       ∙ sym (cond-false (eqb n 0) guest (crank_task e (crank_at (cards_of d) n) rest) other)
 

@@ -7,11 +7,11 @@ ghost use Rattle.deck.specs.Calls.{new_cards, engine_refused, with_engine, crank
 
 use crate::cards::{CrankCard, TimedCard};
 use crate::deck::Deck;
-use crate::tables::{CrankTable, TimedTable};
 use engine::card::{Card, CardParts};
 use engine::engine::Engine;
 use engine::numbers::Numbers;
 use refusal::Refusal;
+use table::few::Few;
 use task::checked::Share;
 use task::kinds::{Timed, TimedParts};
 
@@ -32,18 +32,10 @@ impl Deck {
     pub fn new() -> Deck
         ensures { cards_of result ≡ new_cards }
     {
-        let cranks = CrankTable {
-            table: [NO_CRANK; 4],
-            used: 0,
-        };
-        let timeds = TimedTable {
-            table: [NO_TIMED; 16],
-            used: 0,
-        };
         Deck {
             engine: Engine::house(),
-            cranks,
-            timeds,
+            cranks: Few::new(NO_CRANK),
+            timeds: Few::new(NO_TIMED),
         }
     }
 
@@ -73,7 +65,7 @@ impl Deck {
         if number == 0 || self.uses(number) {
             return Err(Refusal::NumberTaken);
         }
-        if self.cranks.cards().len() >= 4 {
+        if self.cranks.len() >= 4 {
             return Err(Refusal::NoPlace);
         }
         let card = Card::new(&self.engine, parts)?;
@@ -94,7 +86,7 @@ impl Deck {
         if number == 0 || self.uses(number) {
             return Err(Refusal::NumberTaken);
         }
-        if self.timeds.cards().len() >= 16 {
+        if self.timeds.len() >= 16 {
             return Err(Refusal::NoPlace);
         }
         let timed = Timed::new(parts)?;

@@ -75,8 +75,8 @@ impl Deck {
     {
         check_lent(horizon, work.len(), totals.len())?;
         clear(totals, horizon);
-        add_cards(self.cranks.cards(), &self.engine, horizon, work, totals)?;
-        add_cards(self.timeds.cards(), &self.engine, horizon, work, totals)?;
+        add_cards(self.cranks.as_slice(), &self.engine, horizon, work, totals)?;
+        add_cards(self.timeds.as_slice(), &self.engine, horizon, work, totals)?;
         add(guest, horizon, work, totals)?;
         Ok(Verdict::over(totals, horizon))
     }

@@ -11,7 +11,6 @@ use crate::cards::{CrankCard, TimedCard};
 use crate::deck::{Deck, Place};
 use engine::engine::Engine;
 use refusal::Refusal;
-use table::find;
 
 impl Deck {
     // Where the card of this number stands, if there is one.
@@ -19,10 +18,10 @@ impl Deck {
         ensures { StandsAt self.now number result }
     {
         let key = u32::from(number);
-        if let Some(at) = find(&self.cranks.table, self.cranks.used, key) {
+        if let Some(at) = self.cranks.find(key) {
             return Some(Place::Crank(at));
         }
-        let at = find(&self.timeds.table, self.timeds.used, key)?;
+        let at = self.timeds.find(key)?;
         Some(Place::Timed(at))
     }
 
@@ -37,7 +36,7 @@ impl Deck {
     pub(crate) fn is_empty(&self) -> bool
         ensures { result ≡ not (cards_present (cards_of self.now)) }
     {
-        self.cranks.cards().is_empty() && self.timeds.cards().is_empty()
+        self.cranks.as_slice().is_empty() && self.timeds.as_slice().is_empty()
     }
 
     // Another engine, in a deck without cards.
@@ -54,7 +53,7 @@ impl Deck {
         requires right { right_card (numbers_of self.old.engine) (crank_of card) ≡ true }
         ensures { cards_of self.new ≡ with_crank (cards_of self.old) (crank_of card) }
     {
-        self.cranks.add(card);
+        self.cranks.insert(card);
     }
 
     // One more timed card.
@@ -62,7 +61,7 @@ impl Deck {
         requires { self.old.timeds.used < 16 }
         ensures { cards_of self.new ≡ with_clock (cards_of self.old) (clock_of card) }
     {
-        self.timeds.add(card);
+        self.timeds.insert(card);
     }
 
     // Changes in place the cost of one mode of the card of this number.
@@ -71,8 +70,14 @@ impl Deck {
         ensures done { MatchResult result (λ _. cards_of self.new ≡ with_recost (cards_of self.old) number index cost) (λ _. self.new ≡ self.old) }
     {
         match self.place(number) {
-            Some(Place::Crank(at)) => self.cranks.recost(at, index, cost),
-            Some(Place::Timed(at)) => self.timeds.recost(at, index, cost),
+            Some(Place::Crank(at)) => {
+                let cards = &mut self.cranks.table[..];
+                cards[at].recost(index, cost)
+            }
+            Some(Place::Timed(at)) => {
+                let cards = &mut self.timeds.table[..];
+                cards[at].recost(index, cost)
+            }
             None => Err(Refusal::NoSuchCard),
         }
     }
@@ -84,7 +89,10 @@ impl Deck {
     {
         let engine = self.engine;
         match self.place(number) {
-            Some(Place::Crank(at)) => self.cranks.cut(at, &engine, speed),
+            Some(Place::Crank(at)) => {
+                let cards = &mut self.cranks.table[..];
+                cards[at].cut(&engine, speed)
+            }
             Some(Place::Timed(_)) => Err(Refusal::BandList),
             None => Err(Refusal::NoSuchCard),
         }
@@ -96,8 +104,8 @@ impl Deck {
         ensures done { MatchResult result (λ _. cards_of self.new ≡ with_drop (cards_of self.old) number) (λ _. self.new ≡ self.old) }
     {
         match self.place(number) {
-            Some(Place::Crank(at)) => self.cranks.take_out(at),
-            Some(Place::Timed(at)) => self.timeds.take_out(at),
+            Some(Place::Crank(at)) => self.cranks.remove(at),
+            Some(Place::Timed(at)) => self.timeds.remove(at),
             None => return Err(Refusal::NoSuchCard),
         }
         Ok(())

@@ -9,7 +9,7 @@ use Rattle.deck.specs.Tables.{crank_of, clock_of, cranks_in, clocks_in}
 use Rattle.deck.specs.Cards.{cards_of}
 use Rattle.deck.specs.Judging.{crank_graph, clock_graph, tasks, Says}
 use Rattle.deck.specs.Sums.{Grown}
-use Rattle.deck.proofs.Seen.{crank_count, clock_count}
+use Rattle.deck.proofs.Seen.{count_seen}
 use Rattle.deck.proofs.OfDecks.{promised}
 use Rattle.deck.proofs.Rights.{cranks_right}
 use Rattle.deck.proofs.Totals.{grown_one, grown_then, grown_seen, spared_then, summed_from, says_from}
@@ -29,14 +29,14 @@ few_tasks d guest =
       length-append one two,
       length-map (cranks_in d.cranks) (crank_graph e),
       length-map (clocks_in d.timeds) (clock_graph e),
-      crank_count d.cranks,
-      clock_count d.timeds,
+      count_seen crank_of d.cranks,
+      count_seen clock_of d.timeds,
       d.cranks.few,
       d.timeds.few,
     )
 
 pub add_cards-requires : goal.add_cards-requires
-add_cards-requires g c = rw c.cards.ensures (cranks_right c.args.self.now)
+add_cards-requires g c = rw c.as_slice.ensures (cranks_right c.args.self.now)
 
 -- the totals when the verdict is made
 pub record Summed (g : given.Over) (c : goal.After-over g) : Type 0 where
@@ -58,8 +58,8 @@ sums g c =
     let grown =
     grown_then (one ++ two) (guest ∷ []) horizon c.clear.new.totals timeds c.add.new.totals
     (grown_then one two horizon c.clear.new.totals cranks timeds
-    (grown_seen (crank_graph e) crank_of c.cards.result.now _ horizon c.clear.new.totals cranks c.cards.ensures c.in_ok-add_cards.ensures.0)
-    (grown_seen (clock_graph e) clock_of c.cards-2.result.now _ horizon cranks timeds c.cards-2.ensures c.in_ok-add_cards-2.ensures.0))
+    (grown_seen (crank_graph e) crank_of c.as_slice.result.now _ horizon c.clear.new.totals cranks c.as_slice.ensures c.in_ok-add_cards.ensures.0)
+    (grown_seen (clock_graph e) clock_of c.as_slice-2.result.now _ horizon cranks timeds c.as_slice-2.ensures c.in_ok-add_cards-2.ensures.0))
     (grown_one guest (g.met.G.Task.lawful c.args.guest.now) horizon c.add_cards-2.new.work c.add.new.work timeds c.add.new.totals c.in_ok-add.ensures.added)
     in
     let summed = summed_from (tasks (cards_of deck) guest) horizon c.clear.new.totals c.add.new.totals (few_tasks deck guest) lent.most c.clear.ensures.cleared grown in
