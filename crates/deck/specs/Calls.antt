@@ -91,15 +91,14 @@ modes_in None = 1
 modes_in (Some c) = length c.parts.modes
 
 -- the checks of a card that is there
+abbrev pub mode_checks : Option Crank → ℕ → ℕ → List Check
+mode_checks c index cost = nat_le (modes_in c) index gives ModeList ∷ not (cost_ok cost) gives ValueLimits ∷ []
+
 abbrev pub mode_refused : Option Crank → ℕ → ℕ → Option Refusal
-mode_refused c index cost = first_of (nat_le (modes_in c) index gives ModeList ∷ not (cost_ok cost) gives ValueLimits ∷ [])
+mode_refused c index cost = first_of (mode_checks c index cost)
 
 abbrev pub recost_checks : Cards → ℕ → ℕ → ℕ → List Check
-recost_checks s n index cost =
-    not (in_use s n) gives NoSuchCard ∷
-    nat_le (modes_in (crank_at s n)) index gives ModeList ∷
-    not (cost_ok cost) gives ValueLimits ∷
-    []
+recost_checks s n index cost = not (in_use s n) gives NoSuchCard ∷ mode_checks (crank_at s n) index cost
 
 abbrev pub recost_refused : Cards → ℕ → ℕ → ℕ → Option Refusal
 recost_refused s n index cost = first_of (recost_checks s n index cost)
@@ -124,14 +123,14 @@ no_cut e None speed = true
 no_cut e (Some c) speed = cut_wrong e c.parts speed
 
 -- the check of a card that is there
+abbrev pub band_checks : Numbers → Option Crank → ℕ → List Check
+band_checks e c speed = no_cut e c speed gives BandList ∷ []
+
 abbrev pub band_refused : Numbers → Option Crank → ℕ → Option Refusal
-band_refused e c speed = first_of (no_cut e c speed gives BandList ∷ [])
+band_refused e c speed = first_of (band_checks e c speed)
 
 abbrev pub cut_checks : Cards → ℕ → ℕ → List Check
-cut_checks s n speed =
-    not (in_use s n) gives NoSuchCard ∷
-    no_cut s.engine (crank_at s n) speed gives BandList ∷
-    []
+cut_checks s n speed = not (in_use s n) gives NoSuchCard ∷ band_checks s.engine (crank_at s n) speed
 
 abbrev pub cut_refused : Cards → ℕ → ℕ → Option Refusal
 cut_refused s n speed = first_of (cut_checks s n speed)

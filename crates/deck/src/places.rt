@@ -71,12 +71,12 @@ impl Deck {
     {
         match self.place(number) {
             Some(Place::Crank(at)) => {
-                let cards = &mut self.cranks.table[..];
-                cards[at].recost(index, cost)
+                let cranks = &mut self.cranks.table[..];
+                cranks[at].recost(index, cost)
             }
             Some(Place::Timed(at)) => {
-                let cards = &mut self.timeds.table[..];
-                cards[at].recost(index, cost)
+                let timeds = &mut self.timeds.table[..];
+                timeds[at].recost(index, cost)
             }
             None => Err(Refusal::NoSuchCard),
         }
@@ -90,8 +90,8 @@ impl Deck {
         let engine = self.engine;
         match self.place(number) {
             Some(Place::Crank(at)) => {
-                let cards = &mut self.cranks.table[..];
-                cards[at].cut(&engine, speed)
+                let cranks = &mut self.cranks.table[..];
+                cranks[at].cut(&engine, speed)
             }
             Some(Place::Timed(_)) => Err(Refusal::BandList),
             None => Err(Refusal::NoSuchCard),

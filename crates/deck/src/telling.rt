@@ -11,7 +11,6 @@ use crate::task_card::TaskCard;
 use demand::{Told, ToldJob, greatest_walk};
 use refusal::Refusal;
 use task::interface::Task;
-use task::kinds::Timed;
 
 impl Deck {
     // Tells a walk that has the greatest demand of the window, of the card of this number or, for
