@@ -1,47 +1,53 @@
 -- What a change in one of a deck's tables means for the deck.
-use Rattle.std.proofs.Common.{◌≡◌, ℕ, true, List, is_some, None, Ok, Err, Result, sym, refl, ap, ◌∙◌, subst, MatchResult}
+use Rattle.std.proofs.Common.{◌≡◌, ℕ, true, List, get_or, set, slice_get, is_some, Some, None, Ok, Err, Option, Result, sym, refl, ap, ◌∙◌, subst, MatchResult}
 use mathlib.Core.Bool.{Bool-set}
 use Rattle.std.proofs.lemmas.Bool.{or_left, or_right}
 use Rattle.refusal.specs.declared.Refusal.{Refusal}
 use Rattle.refusal.specs.Numbers.{refusal_in}
-use Rattle.table.specs.Ordered.{find_by}
+use Rattle.table.specs.Ordered.{find_by, change_by}
+use Rattle.table.specs.Found.{First}
 use Rattle.engine.specs.Limits.{every}
 use Rattle.engine.specs.Views.{numbers_of}
-use Rattle.deck.specs.declared.tables.CrankTable.{CrankTable}
-use Rattle.deck.specs.declared.tables.TimedTable.{TimedTable}
+use Rattle.deck.specs.declared.cards.CrankCard.{CrankCard}
+use Rattle.deck.specs.declared.cards.TimedCard.{TimedCard}
+use Rattle.table.specs.declared.few.Few.{Few}
 use Rattle.deck.specs.declared.deck.Deck.{Deck}
+use Rattle.deck.specs.declared.deck.Place.{Place}
+use Rattle.deck.specs.declared.deck.Place.TheVariants as places
 use Rattle.deck.specs.Tables.{Crank, Clock, crank_of, clock_of, cranks_in, clocks_in, right_card}
 use Rattle.deck.specs.Cards.{Cards, cards_of}
-use Rattle.deck.specs.Calls.{in_use, crank_at, with_cranks, with_clocks, mode_refused, recost_refused, band_refused, cut_refused, drop_refused}
-use Rattle.deck.specs.Found.{AtCrank, AtTimed}
-use Rattle.deck.proofs.Maps.{some_seen}
+use Rattle.deck.specs.Calls.{in_use, crank_at, clock_at, with_cranks, with_clocks, mode_refused, recost_refused, band_refused, cut_refused, drop_refused}
+use Rattle.deck.specs.Found.{AtCrank, AtTimed, StandsAt}
+use Rattle.deck.proofs.Seen.{found_seen, some_seen}
 
-abbrev pub CranksRight : Deck → CrankTable → Type 0
+abbrev pub CranksRight : Deck → Few CrankCard 4 → Type 0
 CranksRight d t = every (right_card (numbers_of d.engine)) (cranks_in t) ≡ true
 
-abbrev pub with_crank_table : (d : Deck) (t : CrankTable) → CranksRight d t → Deck
+abbrev pub with_crank_table : (d : Deck) (t : Few CrankCard 4) → CranksRight d t → Deck
 with_crank_table d t ok = record { engine = d.engine; cranks = t; timeds = d.timeds; right = ok }
 
-abbrev pub with_timed_table : (d : Deck) → TimedTable → CranksRight d d.cranks → Deck
+abbrev pub with_timed_table : (d : Deck) → Few TimedCard 16 → CranksRight d d.cranks → Deck
 with_timed_table d t ok = record { engine = d.engine; cranks = d.cranks; timeds = t; right = ok }
 
 -- a deck with an equal table is the same deck
-pub same_deck : (d : Deck) (t : CrankTable) (ok : CranksRight d t) → t ≡ d.cranks → with_crank_table d t ok ≡ d
+pub same_deck : (d : Deck) (t : Few CrankCard 4) (ok : CranksRight d t) → t ≡ d.cranks → with_crank_table d t ok ≡ d
 same_deck d t ok p =
-    let P : CrankTable → Type 0 = λ u. (k : CranksRight d u) → with_crank_table d u k ≡ d in
+    let P : Few CrankCard 4 → Type 0 = λ u. (k : CranksRight d u) → with_crank_table d u k ≡ d in
     subst P (sym p) (λ k. ap (with_crank_table d d.cranks) (Bool-set _ _ k d.right)) ok
 
-pub crank_some : (t : CrankTable) (n i : ℕ) → AtCrank t n i → is_some (find_by (λ c. c.number) n (cranks_in t)) ≡ true
-crank_some t n i at = some_seen crank_of (λ c. c.number) n t.used t.table i at.0 at.1
+module _ (d : Deck) (n i : ℕ) where
+  -- the card of a number that is found
+  pub crank_found : AtCrank d.cranks n i → (x : CrankCard) → crank_at (cards_of d) n ≡ Some (crank_of (get_or d.cranks.table i x))
+  crank_found at x = found_seen crank_of (λ c. c.number) d.cranks n i at x
 
-pub clock_some : (t : TimedTable) (n i : ℕ) → AtTimed t n i → is_some (find_by (λ c. c.number) n (clocks_in t)) ≡ true
-clock_some t n i at = some_seen clock_of (λ c. c.number) n t.used t.table i at.0 at.1
+  pub clock_found : AtTimed d.timeds n i → (x : TimedCard) → clock_at (cards_of d) n ≡ Some (clock_of (get_or d.timeds.table i x))
+  clock_found at x = found_seen clock_of (λ c. c.number) d.timeds n i at x
 
-pub crank_in_use : (d : Deck) (n i : ℕ) → AtCrank d.cranks n i → in_use (cards_of d) n ≡ true
-crank_in_use d n i at = or_left _ _ (crank_some d.cranks n i at)
-
-pub clock_in_use : (d : Deck) (n i : ℕ) → AtTimed d.timeds n i → in_use (cards_of d) n ≡ true
-clock_in_use d n i at = or_right _ _ (clock_some d.timeds n i at)
+-- a number is in use where its card is found
+pub stands_in_use : (d : Deck) (n : ℕ) (p : Option Place) → StandsAt d n p → is_some p ≡ in_use (cards_of d) n
+stands_in_use d n (Some (places.Crank i)) at = sym (or_left _ _ (some_seen crank_of (λ c. c.number) d.cranks n i at))
+stands_in_use d n (Some (places.Timed i)) at = sym (or_right _ _ (some_seen clock_of (λ c. c.number) d.timeds n i at.1))
+stands_in_use d n None at = let one = at.0 in let two = at.1 in rw (one, two)
 
 -- a card that is there passes the first check
 module _ (s : Cards) (n : ℕ) (here : in_use s n ≡ true) where
@@ -55,17 +61,17 @@ module _ (s : Cards) (n : ℕ) (here : in_use s n ≡ true) where
   drop_passes = rw here
 
 -- the answer of a change in the engine cards' table, seen at the deck
-pub crank_change : {U : Type 0} (d : Deck) (t : CrankTable) (ok : CranksRight d t) (cs : List Crank) (s : Cards) → with_cranks (cards_of d) cs ≡ s → (r : Result U Refusal) → MatchResult r (λ _. cranks_in t ≡ cs) (λ _. t ≡ d.cranks) → MatchResult r (λ _. cards_of (with_crank_table d t ok) ≡ s) (λ _. with_crank_table d t ok ≡ d)
+pub crank_change : {U : Type 0} (d : Deck) (t : Few CrankCard 4) (ok : CranksRight d t) (cs : List Crank) (s : Cards) → with_cranks (cards_of d) cs ≡ s → (r : Result U Refusal) → MatchResult r (λ _. cranks_in t ≡ cs) (λ _. t ≡ d.cranks) → MatchResult r (λ _. cards_of (with_crank_table d t ok) ≡ s) (λ _. with_crank_table d t ok ≡ d)
 crank_change d t ok cs s e (Ok u) h = ap (with_cranks (cards_of d)) h ∙ e
 crank_change d t ok cs s e (Err y) h = same_deck d t ok h
 
 -- and in the timed cards' table
-pub clock_change : {U : Type 0} (d : Deck) (t : TimedTable) (ok : CranksRight d d.cranks) (cs : List Clock) (s : Cards) → with_clocks (cards_of d) cs ≡ s → (r : Result U Refusal) → MatchResult r (λ _. clocks_in t ≡ cs) (λ _. t ≡ d.timeds) → MatchResult r (λ _. cards_of (with_timed_table d t ok) ≡ s) (λ _. with_timed_table d t ok ≡ d)
+pub clock_change : {U : Type 0} (d : Deck) (t : Few TimedCard 16) (ok : CranksRight d d.cranks) (cs : List Clock) (s : Cards) → with_clocks (cards_of d) cs ≡ s → (r : Result U Refusal) → MatchResult r (λ _. clocks_in t ≡ cs) (λ _. t ≡ d.timeds) → MatchResult r (λ _. cards_of (with_timed_table d t ok) ≡ s) (λ _. with_timed_table d t ok ≡ d)
 clock_change d t ok cs s e (Ok u) h = ap (with_clocks (cards_of d)) h ∙ e
 clock_change d t ok cs s e (Err y) h =
     ap (λ u. with_timed_table d u ok) h ∙ ap (with_timed_table d d.timeds) (Bool-set _ _ ok d.right)
 
 -- a change keeps the cards right if it does so where it is done
-pub cranks_kept : {U : Type 0} (d : Deck) (t : CrankTable) (cs : List Crank) (r : Result U Refusal) → MatchResult r (λ _. cranks_in t ≡ cs) (λ _. t ≡ d.cranks) → (refusal_in r ≡ None → every (right_card (numbers_of d.engine)) cs ≡ true) → CranksRight d t
+pub cranks_kept : {U : Type 0} (d : Deck) (t : Few CrankCard 4) (cs : List Crank) (r : Result U Refusal) → MatchResult r (λ _. cranks_in t ≡ cs) (λ _. t ≡ d.cranks) → (refusal_in r ≡ None → every (right_card (numbers_of d.engine)) cs ≡ true) → CranksRight d t
 cranks_kept d t cs (Ok u) h k = subst (λ l. every (right_card (numbers_of d.engine)) l ≡ true) (sym h) (k refl)
 cranks_kept d t cs (Err y) h k = subst (λ u. every (right_card (numbers_of d.engine)) (cranks_in u) ≡ true) (sym h) d.right

@@ -1,14 +1,37 @@
 -- Lists in order of a key, seen through a map that keeps the key.
-use Rattle.std.proofs.Common.{◌≡◌, ℕ, zero, suc, ◌<◌, Bool, true, false, cond, eqb, ltb, List, [], ◌∷◌, map, get_or, take, set, is_some, Some, None, sym, refl, ap, ◌∙◌, subst, arith}
-use Rattle.std.specs.Option.{option_map}
-use Rattle.table.specs.Ordered.{insert_by, find_by, without, change_by}
-use Rattle.std.proofs.lemmas.Bool.{eq-eqb, ne_eqb}
+use Rattle.std.proofs.Common.{◌≡◌, ℕ, ◌<◌, ◌≤◌, Bool, true, false, cond, ltb, List, [], ◌∷◌, map, length, get_or, take, set, None, sym, refl, ap, ◌∙◌, arith, get_or-take}
+use Rattle.std.proofs.Math.Seq.{take-set-lt}
+use Rattle.std.specs.List.{remove}
+use Rattle.std.proofs.lemmas.List.{get_or-map, map-set, map-append, take-map, drop-map, length-map, length-take-le}
+use Rattle.table.specs.Ordered.{insert_by, find_by}
 use Rattle.table.specs.Found.{Lacks, First}
-use Rattle.table.proofs.Ordered.{find_none, find_used, first_take}
+use Rattle.table.proofs.Ordered.{find_none, first_take}
 
 cond_map : {X Y : Type 0} (f : X → Y) (b : Bool) (x y : X) → f (cond b x y) ≡ cond b (f x) (f y)
 cond_map f true x y = refl
 cond_map f false x y = refl
+
+-- an item of a list that has one
+pub some_item : {X : Type 0} (xs : List X) (i : ℕ) → i < length xs → X
+some_item [] i h = absurd (omega arith)
+some_item (x ∷ xs) i h = x
+
+module _ {X Y : Type 0} (f : X → Y) where
+  pub map_remove : (xs : List X) (i : ℕ) → map f (remove xs i) ≡ remove (map f xs) i
+  map_remove xs i = simp (map-append, take-map, drop-map)
+
+  -- an item among the first used, as it is seen
+  pub seen_at : (used : ℕ) (xs : List X) (i : ℕ) (d : X) (z : Y) → i < used → used ≤ length xs → get_or (map f (take used xs)) i z ≡ f (get_or xs i d)
+  seen_at used xs i d z below within =
+      let long = length-take-le used xs within in
+      get_or-map f (take used xs) i d z (omega arith) ∙ ap f (get_or-take used xs i d below)
+
+  -- the item x was is replaced by y, which is seen as g of what was seen there
+  pub seen_set : (used : ℕ) (xs : List X) (i : ℕ) (x y : X) (z : Y) (g : Y → Y) → i < used → used ≤ length xs → f y ≡ g (f (get_or xs i x)) → map f (take used (set xs i y)) ≡ set (map f (take used xs)) i (g (get_or (map f (take used xs)) i z))
+  seen_set used xs i x y z g below within e =
+      ap (map f) (take-set-lt used xs i y below)
+      ∙ map-set f (take used xs) i y
+      ∙ ap (set (map f (take used xs)) i) (e ∙ ap g (sym (seen_at used xs i x z below within)))
 
 module _ {X Y : Type 0} (f : X → Y) (key : Y → ℕ) where
   pub map_insert : (x : X) (xs : List X) → map f (insert_by (λ c. key (f c)) x xs) ≡ insert_by key (f x) (map f xs)
@@ -17,58 +40,21 @@ module _ {X Y : Type 0} (f : X → Y) (key : Y → ℕ) where
       cond_map (map f) (ltb (key (f x)) (key (f y))) (x ∷ y ∷ ys) (y ∷ insert_by (λ c. key (f c)) x ys)
       ∙ ap (λ l. cond (ltb (key (f x)) (key (f y))) (f x ∷ f y ∷ map f ys) (f y ∷ l)) (map_insert x ys)
 
-  pub map_without : (n : ℕ) (xs : List X) → map f (without (λ c. key (f c)) n xs) ≡ without key n (map f xs)
-  map_without n [] = refl
-  map_without n (y ∷ ys) =
-      cond_map (map f) (eqb (key (f y)) n) ys (y ∷ without (λ c. key (f c)) n ys)
-      ∙ ap (λ l. cond (eqb (key (f y)) n) (map f ys) (f y ∷ l)) (map_without n ys)
-
-  pub map_find : (n : ℕ) (xs : List X) → find_by key n (map f xs) ≡ option_map f (find_by (λ c. key (f c)) n xs)
-  map_find n [] = refl
-  map_find n (y ∷ ys) =
-      ap (cond (eqb (key (f y)) n) (Some (f y))) (map_find n ys)
-      ∙ sym (cond_map (option_map f) (eqb (key (f y)) n) (Some y) (find_by (λ c. key (f c)) n ys))
-
-  -- h changes an item as g changes what is seen of it
-  pub map_change : (n : ℕ) (h : X → X) (g : Y → Y) → ((x : X) → f (h x) ≡ g (f x)) → (xs : List X) → map f (change_by (λ c. key (f c)) n h xs) ≡ change_by key n g (map f xs)
-  map_change n h g same [] = refl
-  map_change n h g same (y ∷ ys) =
-      cond_map (map f) (eqb (key (f y)) n) (h y ∷ ys) (y ∷ change_by (λ c. key (f c)) n h ys)
-      ∙ ap (λ l. cond (eqb (key (f y)) n) (f (h y) ∷ map f ys) (f y ∷ l)) (map_change n h g same ys)
-      ∙ ap (λ z. cond (eqb (key (f y)) n) (z ∷ map f ys) (f y ∷ change_by key n g (map f ys))) (same y)
-
   -- what a search by key tells of what is seen
   pub lacks_seen : (n k : ℕ) (xs : List X) → k ≡ n → Lacks (λ c. key (f c)) k xs → find_by key n (map f xs) ≡ None
   lacks_seen n k xs e h =
-      map_find n xs ∙ ap (option_map f) (find_none (λ c. key (f c)) n xs (subst (λ m. Lacks (λ c. key (f c)) m xs) e h))
+      find_none key n (map f xs)
+      (λ j d below here.
+      let long = length-map xs f in
+      let x = some_item xs j (omega arith) in
+      h j x (omega arith) (sym (ap key (get_or-map f xs j x d (omega arith))) ∙ here ∙ sym e))
 
-  pub first_seen : (n used : ℕ) (xs : List X) (i : ℕ) (d : X) → i < used → First (λ c. key (f c)) n xs i → find_by key n (map f (take used xs)) ≡ Some (f (get_or xs i d))
-  first_seen n used xs i d below h =
-      map_find n (take used xs) ∙ ap (option_map f) (find_used (λ c. key (f c)) n used xs i d below h)
-
-  -- the item of key n, at i, is replaced by x, which is seen as g of what was seen there
-  pub map_stored : (n : ℕ) (g : Y → Y) (x d : X) (xs : List X) (i : ℕ) → First (λ c. key (f c)) n xs i → f x ≡ g (f (get_or xs i d)) → map f (set xs i x) ≡ change_by key n g (map f xs)
-  map_stored n g x d [] i at e = absurd (omega arith)
-  map_stored n g x d (y ∷ ys) zero at e =
-      sym (ap (λ t. cond t (g (f y) ∷ map f ys) (f y ∷ change_by key n g (map f ys))) (eq-eqb (key (f y)) n (at.1 y)) ∙ ap (λ z. z ∷ map f ys) (sym e))
-  map_stored n g x d (y ∷ ys) (suc i) at e =
-      ap (λ l. f y ∷ l) (map_stored n g x d ys i (omega arith, λ d'. at.1 d', λ j d' h. at.2 (suc j) d' (omega arith)) e)
-      ∙ sym (ap (λ t. cond t (g (f y) ∷ map f ys) (f y ∷ change_by key n g (map f ys))) (ne_eqb (key (f y)) n (at.2 0 y (omega arith))))
-
-pub take_stored : {X : Type 0} (n : ℕ) (xs : List X) (i : ℕ) (x : X) → take n (set xs i x) ≡ set (take n xs) i x
-take_stored zero xs i x = refl
-take_stored (suc n) [] i x = refl
-take_stored (suc n) (y ∷ ys) zero x = refl
-take_stored (suc n) (y ∷ ys) (suc i) x = ap (λ l. y ∷ l) (take_stored n ys i x)
-
-module _ {X Y : Type 0} (f : X → Y) (key : Y → ℕ) (n : ℕ) where
-  found_some : (xs : List X) (i : ℕ) → First (λ c. key (f c)) n xs i → is_some (find_by key n (map f xs)) ≡ true
-  found_some [] i at = absurd (omega arith)
-  found_some (y ∷ ys) zero at = ap (λ b. is_some (cond b (Some (f y)) (find_by key n (map f ys)))) (eq-eqb (key (f y)) n (at.1 y))
-  found_some (y ∷ ys) (suc i) at =
-      ap (λ b. is_some (cond b (Some (f y)) (find_by key n (map f ys)))) (ne_eqb (key (f y)) n (at.2 0 y (omega arith)))
-      ∙ found_some ys i (omega arith, λ d. at.1 d, λ j d h. at.2 (suc j) d (omega arith))
-
-  -- an item that is found among the first is seen
-  pub some_seen : (used : ℕ) (xs : List X) (i : ℕ) → i < used → First (λ c. key (f c)) n xs i → is_some (find_by key n (map f (take used xs))) ≡ true
-  some_seen used xs i below at = found_some (take used xs) i (first_take (λ c. key (f c)) n used xs i below at)
+  pub first_map : (n used : ℕ) (xs : List X) (i : ℕ) → i < used → First (λ c. key (f c)) n xs i → First key n (map f (take used xs)) i
+  first_map n used xs i below h =
+      let first = first_take (λ c. key (f c)) n used xs i below h in
+      let long = length-map (take used xs) f in
+      let x = some_item (take used xs) i first.0 in (
+        omega (arith, first.0),
+        λ d. ap key (get_or-map f (take used xs) i x d first.0) ∙ first.1 x,
+        λ j d before here. first.2 j x before (sym (ap key (get_or-map f (take used xs) j x d (omega (arith, first.0)))) ∙ here),
+      )

@@ -1,9 +1,11 @@
 -- A deck's engine cards stay right for its engine.
-use Rattle.std.proofs.Common.{◌≡◌, ℕ, zero, suc, ◌<◌, Bool, true, false, cond, not, eqb, ltb, List, [], ◌∷◌, length, get_or, Some, None, sym, refl, subst, arith}
+use Rattle.std.proofs.Common.{◌≡◌, ℕ, zero, suc, ◌<◌, Bool, true, false, cond, not, eqb, ltb, List, [], ◌∷◌, length, get_or, take, Some, None, sym, refl, subst, arith, get_or-take}
+use Rattle.std.specs.List.{AllPass}
+use Rattle.std.proofs.lemmas.List.{length-take-le}
 use Rattle.std.proofs.lemmas.Bool.{and_parts, and_from}
 use Rattle.table.specs.Ordered.{insert_by, find_by, without, change_by}
 use Rattle.engine.specs.Limits.{every, cost_ok, angle_ok, bands_ok}
-use Rattle.engine.specs.Views.{Numbers, Parts, Right, modes_ok, numbers_of, parts_of}
+use Rattle.engine.specs.Views.{Numbers, Parts, Right, modes_ok, numbers_of}
 use Rattle.engine.specs.Changes.{cut_wrong, card_refusal}
 use Rattle.refusal.specs.Numbers.{first_of, ◌gives◌}
 use Rattle.refusal.specs.declared.Refusal.TheVariants.{AngleLimits, ModeList, BandList}
@@ -12,7 +14,7 @@ use Rattle.engine.proofs.Right.{cut_right, recost_right}
 use Rattle.deck.specs.declared.cards.CrankCard.{CrankCard}
 use Rattle.deck.specs.declared.deck.Deck.{Deck}
 use Rattle.deck.specs.Tables.{Crank, right_card, crank_of, cranks_in}
-use Rattle.deck.proofs.Seen.{crank_count, crank_seen}
+use Rattle.deck.proofs.Seen.{count_seen, item_seen}
 use Rattle.deck.specs.Calls.{crank_recosted, crank_cut}
 
 module _ {X : Type 0} (test : X → Bool) (key : X → ℕ) where
@@ -87,10 +89,16 @@ every_at test [] i d all h = absurd (omega arith)
 every_at test (x ∷ xs) zero d all h = (and_parts (test x) (every test xs) all).0
 every_at test (x ∷ xs) (suc i) d all h = every_at test xs i d (and_parts (test x) (every test xs) all).1 (omega arith)
 
--- the engine card at an index is right for its engine
-pub crank_right : (d : Deck) (i : ℕ) (x : CrankCard) → i < d.cranks.used → Right (numbers_of d.engine) (parts_of (get_or d.cranks.table i x).card)
+-- the engine cards of a deck are right for its engine
+pub crank_right : (d : Deck) (i : ℕ) (x : CrankCard) → i < d.cranks.used → right_card (numbers_of d.engine) (crank_of (get_or d.cranks.table i x)) ≡ true
 crank_right d i x h =
     let e = numbers_of d.engine in
-    let many = crank_count d.cranks in
+    let many = count_seen crank_of d.cranks in
     let ok = every_at (right_card e) (cranks_in d.cranks) i (crank_of x) d.right (omega arith) in
-    right_parts e (crank_of (get_or d.cranks.table i x)) (subst (λ c. right_card e c ≡ true) (crank_seen d.cranks i x (crank_of x) h) ok)
+    subst (λ c. right_card e c ≡ true) (item_seen crank_of d.cranks i x (crank_of x) h) ok
+
+pub cranks_right : (d : Deck) → AllPass (λ c. right_card (numbers_of d.engine) (crank_of c)) (take d.cranks.used d.cranks.table)
+cranks_right d i x h =
+    let many = length-take-le d.cranks.used d.cranks.table (omega (arith, d.cranks.whole, d.cranks.few)) in
+    let inside : i < d.cranks.used = omega arith in
+    subst (λ c. right_card (numbers_of d.engine) (crank_of c) ≡ true) (sym (get_or-take d.cranks.used d.cranks.table i x inside)) (crank_right d i x inside)

@@ -1,57 +1,47 @@
--- What a search in a table, and a card stored in it, mean for the list of cards that is seen.
-use Rattle.std.proofs.Common.{◌≡◌, ℕ, zero, suc, ◌<◌, ◌≤◌, List, [], ◌∷◌, map, length, get_or, take, set, Some, sym, refl, ap, ◌∙◌, arith, get_or-take}
-use Rattle.std.proofs.lemmas.List.{length-map, length-take-le}
-use Rattle.table.specs.Ordered.{find_by, change_by}
+-- What a search in a table, and an item changed in it, mean for the list that is seen of it.
+use Rattle.std.proofs.Common.{◌≡◌, ℕ, ◌<◌, ◌≤◌, true, List, map, length, get_or, set, is_some, Some, Ok, Err, Result, sym, refl, ap, ◌∙◌, subst, arith, MatchResult}
+use native.Mathlib.Bridge.{le_prop}
+use Rattle.std.proofs.Math.Nat.{ℕ_set}
+use Rattle.std.proofs.lemmas.List.{length-map, length-take-le, set-get_or}
+use Rattle.refusal.specs.declared.Refusal.{Refusal}
+use Rattle.table.specs.declared.few.Few.{Few}
+use Rattle.table.specs.Few.{items_of}
 use Rattle.table.specs.Found.{First}
-use Rattle.table.proofs.Ordered.{first_take}
-use Rattle.deck.specs.declared.cards.CrankCard.{CrankCard}
-use Rattle.deck.specs.declared.cards.TimedCard.{TimedCard}
-use Rattle.deck.specs.declared.tables.CrankTable.{CrankTable}
-use Rattle.deck.specs.declared.tables.TimedTable.{TimedTable}
-use Rattle.deck.specs.Tables.{Crank, Clock, crank_of, clock_of, cranks_in, clocks_in}
-use Rattle.deck.specs.Found.{AtCrank, AtTimed}
-use Rattle.deck.proofs.Maps.{first_seen, map_stored, take_stored}
+use Rattle.table.specs.Ordered.{find_by, change_by}
+use Rattle.table.proofs.Ordered.{find_first, change_first}
+use Rattle.deck.proofs.Maps.{some_item, seen_at, seen_set, first_map}
 
-pub crank_found : (t : CrankTable) (n i : ℕ) (d : CrankCard) → AtCrank t n i → find_by (λ c. c.number) n (cranks_in t) ≡ Some (crank_of (get_or t.table i d))
-crank_found t n i d at = first_seen crank_of (λ c. c.number) n t.used t.table i d at.0 at.1
+module _ {T Y : Type 0} {N : ℕ} (f : T → Y) (t : Few T N) where
+  -- how many items are seen
+  pub count_seen : length (map f (items_of t)) ≡ t.used
+  count_seen = length-map (items_of t) f ∙ length-take-le t.used t.table (omega (arith, t.whole, t.few))
 
-pub clock_found : (t : TimedTable) (n i : ℕ) (d : TimedCard) → AtTimed t n i → find_by (λ c. c.number) n (clocks_in t) ≡ Some (clock_of (get_or t.table i d))
-clock_found t n i d at = first_seen clock_of (λ c. c.number) n t.used t.table i d at.0 at.1
+  -- an item, as it is seen
+  pub item_seen : (i : ℕ) (d : T) (z : Y) → i < t.used → get_or (map f (items_of t)) i z ≡ f (get_or t.table i d)
+  item_seen i d z below = seen_at f t.used t.table i d z below (omega (arith, t.whole, t.few))
 
--- a new item at i, seen among the first used
-module _ {X Y : Type 0} (f : X → Y) (key : Y → ℕ) (used : ℕ) (xs : List X) (n i : ℕ) (below : i < used) (at : First (λ c. key (f c)) n xs i) where
-  stored : (x d : X) (g : Y → Y) → f x ≡ g (f (get_or xs i d)) → map f (take used (set xs i x)) ≡ change_by key n g (map f (take used xs))
-  stored x d g e =
-      ap (map f) (take_stored used xs i x)
-      ∙ map_stored f key n g x d (take used xs) i (first_take (λ c. key (f c)) n used xs i below at) (e ∙ ap (λ y. g (f y)) (sym (get_or-take used xs i d below)))
+-- the first item of key n is at i
+module _ {T Y : Type 0} {N : ℕ} (f : T → Y) (key : Y → ℕ) (t : Few T N) (n i : ℕ) (at : (i < t.used) × First (λ c. key (f c)) n t.table i) where
+  pub first_seen : First key n (map f (items_of t)) i
+  first_seen = first_map f key n t.used t.table i at.0 at.1
 
-pub crank_stored : (t : CrankTable) (n i : ℕ) (x d : CrankCard) (g : Crank → Crank) → AtCrank t n i → crank_of x ≡ g (crank_of (get_or t.table i d)) → map crank_of (take t.used (set t.table i x)) ≡ change_by (λ c. c.number) n g (cranks_in t)
-crank_stored t n i x d g at e = stored crank_of (λ c. c.number) t.used t.table n i at.0 at.1 x d g e
+  pub found_seen : (x : T) → find_by key n (map f (items_of t)) ≡ Some (f (get_or t.table i x))
+  found_seen x = find_first key n (map f (items_of t)) i (f x) first_seen ∙ ap Some (item_seen f t i x (f x) at.0)
 
-pub clock_stored : (t : TimedTable) (n i : ℕ) (x d : TimedCard) (g : Clock → Clock) → AtTimed t n i → clock_of x ≡ g (clock_of (get_or t.table i d)) → map clock_of (take t.used (set t.table i x)) ≡ change_by (λ c. c.number) n g (clocks_in t)
-clock_stored t n i x d g at e = stored clock_of (λ c. c.number) t.used t.table n i at.0 at.1 x d g e
+  pub some_seen : is_some (find_by key n (map f (items_of t))) ≡ true
+  some_seen = ap is_some (found_seen (some_item t.table i at.1.0))
 
--- how many cards are seen
-pub crank_count : (t : CrankTable) → length (cranks_in t) ≡ t.used
-crank_count t = length-map _ crank_of ∙ length-take-le t.used t.table (omega (arith, t.whole, t.few))
+  -- the item there, x, becomes y
+  module _ (x y : T) (w : length (set t.table i y) ≡ N) (k : t.used ≤ N) where
+    abbrev pub stored : Few T N
+    stored = record { table = set t.table i y; used = t.used; whole = w; few = k }
 
-pub clock_count : (t : TimedTable) → length (clocks_in t) ≡ t.used
-clock_count t = length-map _ clock_of ∙ length-take-le t.used t.table (omega (arith, t.whole, t.few))
-
--- an item of a table, as it is seen
-module _ {X Y : Type 0} (f : X → Y) where
-  get_d_map : (xs : List X) (i : ℕ) (d : X) (z : Y) → i < length xs → get_or (map f xs) i z ≡ f (get_or xs i d)
-  get_d_map [] i d z h = absurd (omega arith)
-  get_d_map (x ∷ xs) zero d z h = refl
-  get_d_map (x ∷ xs) (suc i) d z h = get_d_map xs i d z (omega arith)
-
-  seen_at : (used : ℕ) (xs : List X) (i : ℕ) (d : X) (z : Y) → i < used → used ≤ length xs → get_or (map f (take used xs)) i z ≡ f (get_or xs i d)
-  seen_at used xs i d z below within =
-      let long = length-take-le used xs within in
-      get_d_map (take used xs) i d z (omega arith) ∙ ap f (get_or-take used xs i d below)
-
-pub crank_seen : (t : CrankTable) (i : ℕ) (d : CrankCard) (z : Crank) → i < t.used → get_or (cranks_in t) i z ≡ crank_of (get_or t.table i d)
-crank_seen t i d z h = seen_at crank_of t.used t.table i d z h (omega (arith, t.whole, t.few))
-
-pub clock_seen : (t : TimedTable) (i : ℕ) (d : TimedCard) (z : Clock) → i < t.used → get_or (clocks_in t) i z ≡ clock_of (get_or t.table i d)
-clock_seen t i d z h = seen_at clock_of t.used t.table i d z h (omega (arith, t.whole, t.few))
+    -- it is changed in place, or left where the change is refused
+    pub changed_seen : {U : Type 0} (g : Y → Y) (r : Result U Refusal) → MatchResult r (λ _. f y ≡ g (f (get_or t.table i x))) (λ _. y ≡ get_or t.table i x) → MatchResult r (λ _. map f (items_of stored) ≡ change_by key n g (map f (items_of t))) (λ _. stored ≡ t)
+    changed_seen g (Ok u) h =
+        seen_set f t.used t.table i x y (f x) g at.0 (omega (arith, t.whole, t.few)) h
+        ∙ sym (change_first key n g (map f (items_of t)) i (f x) first_seen)
+    changed_seen g (Err e) h =
+        let same = ap (set t.table i) h ∙ set-get_or t.table i x in
+        let P : List T → Type 0 = λ l. (v : length l ≡ N) → ◌≡◌ {A = Few T N} (record { table = l; used = t.used; whole = v; few = k }) t in
+        subst P (sym same) (λ v j. record { table = t.table; used = t.used; whole = ℕ_set _ _ v t.whole j; few = le_prop k t.few j }) w

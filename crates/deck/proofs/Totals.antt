@@ -1,6 +1,7 @@
 -- Sums of greatest demands: they are unique, they add up, and they stay small.
 use Rattle.std.proofs.Common.{◌≡◌, ℕ, ◌+◌, ◌*◌, ◌<◌, ◌≤◌, List, [], ◌∷◌, ◌++◌, map, length, get_or, take, sym, refl, ap, ◌∙◌, subst, ⊎_elim, mul-le-mul_right, mul-le-mul_left, arith, length-append}
 use Rattle.std.proofs.lemmas.List.{take_more, map-append}
+use Rattle.std.proofs.lemmas.Simd.{map-map}
 use Rattle.task.specs.Graph.{Graph, Lawful}
 use Rattle.task.specs.Walks.{Greatest, Total}
 use Rattle.demand.specs.Judged.{Added}
@@ -77,6 +78,11 @@ grown_then gs hs horizon xs ys zs p q = record {
 
 pub spared_then : (n : ℕ) (xs ys zs : List ℕ) → Spared n xs ys → Spared n ys zs → Spared n xs zs
 spared_then n xs ys zs p q i h = q i h ∙ p i h
+
+-- the same of cards as they are seen
+pub grown_seen : {X Y : Type 0} (f : Y → Graph) (seen : X → Y) (xs ys : List X) (horizon : ℕ) (zs zs' : List ℕ) → xs ≡ ys → Grown (map (λ x. f (seen x)) xs) horizon zs zs' → Grown (map f (map seen ys)) horizon zs zs'
+grown_seen f seen xs ys horizon zs zs' e p =
+    subst (λ gs. Grown gs horizon zs zs') (ap (map (λ x. f (seen x))) e ∙ sym (map-map f seen ys)) p
 
 -- one card more of a list
 pub grown_more : {X : Type 0} (f : X → Graph) (xs : List X) (i : ℕ) (d : X) (g : Graph) (horizon : ℕ) (xs₀ ys zs : List ℕ) → i < length xs → g ≡ f (get_or xs i d) → Grown (map f (take i xs)) horizon xs₀ ys → Grown (g ∷ []) horizon ys zs → Grown (map f (take (i + 1) xs)) horizon xs₀ zs

@@ -12,10 +12,6 @@ pub record Grown (gs : List Graph) (horizon : ℕ) (totals totals' : List ℕ) :
   pub at : (t : ℕ) → t ≤ horizon → (n : ℕ) × Total gs t n × (n ≤ length gs * (100000 * t)) × (slice_index totals t + n < 2 ^ 64 → slice_index totals' t ≡ slice_index totals t + n)
   pub beyond : (t : ℕ) → horizon < t → slice_index totals' t ≡ slice_index totals t
 
--- no cell from place n on has changed
-abbrev pub Spared : ℕ → List ℕ → List ℕ → Type 0
-Spared n xs xs' = (i : ℕ) → n ≤ i → slice_index xs' i ≡ slice_index xs i
-
 -- what a verdict says of the totals themselves
 abbrev pub Decides : Verdict → List ℕ → ℕ → Type 0
 Decides (Fits h) totals horizon = (h ≡ horizon) × Within totals horizon

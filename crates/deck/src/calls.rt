@@ -2,16 +2,18 @@
 ghost use Rattle.std.specs.Prelude.{◌≡◌, ◌<◌, MatchResult};
 ghost use Rattle.refusal.specs.Numbers.{refusal_in};
 ghost use Rattle.deck.specs.Cards.{cards_of};
+ghost use Rattle.deck.specs.Tables.{crank_given, clock_given};
 ghost use Rattle.deck.specs.Calls.{new_cards, engine_refused, with_engine, crank_refused, with_crank, clock_refused, with_clock};
 
 use crate::cards::{CrankCard, TimedCard};
 use crate::deck::Deck;
-use crate::tables::{CrankTable, TimedTable};
-use engine::card::{Card, Mode};
+use engine::card::{Card, CardParts};
 use engine::engine::Engine;
+use engine::numbers::Numbers;
 use refusal::Refusal;
+use table::few::Few;
 use task::checked::Share;
-use task::kinds::Timed;
+use task::kinds::{Timed, TimedParts};
 
 // What fills the cells of a table that are not in use.
 const NO_CRANK: CrankCard = CrankCard {
@@ -30,37 +32,22 @@ impl Deck {
     pub fn new() -> Deck
         ensures { cards_of result ≡ new_cards }
     {
-        let cranks = CrankTable {
-            table: [NO_CRANK; 4],
-            used: 0,
-        };
-        let timeds = TimedTable {
-            table: [NO_TIMED; 16],
-            used: 0,
-        };
         Deck {
             engine: Engine::house(),
-            cranks,
-            timeds,
+            cranks: Few::new(NO_CRANK),
+            timeds: Few::new(NO_TIMED),
         }
     }
 
     // Replaces the engine of a deck without cards.
-    pub fn set_engine(
-        &mut self,
-        least: u32,
-        greatest: u32,
-        rise: u16,
-        fall: u16,
-        entry: u16,
-    ) -> Result<(), Refusal>
-        ensures refusal { refusal_in result ≡ engine_refused (cards_of self.old) (record { least = least; greatest = greatest; rise = rise; fall = fall; entry = entry }) }
-        ensures done { MatchResult result (λ _. cards_of self.new ≡ with_engine (cards_of self.old) (record { least = least; greatest = greatest; rise = rise; fall = fall; entry = entry })) (λ _. self.new ≡ self.old) }
+    pub fn set_engine(&mut self, numbers: Numbers) -> Result<(), Refusal>
+        ensures refusal { refusal_in result ≡ engine_refused (cards_of self.old) numbers }
+        ensures done { MatchResult result (λ _. cards_of self.new ≡ with_engine (cards_of self.old) numbers) (λ _. self.new ≡ self.old) }
     {
-        if self.has_cards() {
+        if !self.is_empty() {
             return Err(Refusal::OutOfTurn);
         }
-        let engine = Engine::new(least, greatest, rise, fall, entry)?;
+        let engine = Engine::new(numbers)?;
         self.replace_engine(engine);
         Ok(())
     }
@@ -69,13 +56,11 @@ impl Deck {
     pub fn add_engine_card(
         &mut self,
         number: u8,
-        angle: u32,
         share: u16,
-        modes: &[Mode],
-        bands: &[u32],
+        parts: CardParts<'_>,
     ) -> Result<(), Refusal>
-        ensures refusal { refusal_in result ≡ crank_refused (cards_of self.old) (record { number = number; share = share; parts = record { angle = angle; modes = modes.now; bands = bands.now } }) }
-        ensures done { MatchResult result (λ _. cards_of self.new ≡ with_crank (cards_of self.old) (record { number = number; share = share; parts = record { angle = angle; modes = modes.now; bands = bands.now } })) (λ _. self.new ≡ self.old) }
+        ensures refusal { refusal_in result ≡ crank_refused (cards_of self.old) (crank_given number share parts.entry) }
+        ensures done { MatchResult result (λ _. cards_of self.new ≡ with_crank (cards_of self.old) (crank_given number share parts.entry)) (λ _. self.new ≡ self.old) }
     {
         if number == 0 || self.uses(number) {
             return Err(Refusal::NumberTaken);
@@ -83,7 +68,7 @@ impl Deck {
         if self.cranks.len() >= 4 {
             return Err(Refusal::NoPlace);
         }
-        let card = Card::new(&self.engine, angle, modes, bands)?;
+        let card = Card::new(&self.engine, parts)?;
         let share = Share::new(share)?;
         self.add_crank(CrankCard {
             number,
@@ -94,15 +79,9 @@ impl Deck {
     }
 
     // Puts in a timed card.
-    pub fn add_timed_card(
-        &mut self,
-        number: u8,
-        period: u32,
-        deadline: u32,
-        cost: u32,
-    ) -> Result<(), Refusal>
-        ensures refusal { refusal_in result ≡ clock_refused (cards_of self.old) (record { number = number; period = period; deadline = deadline; cost = cost }) }
-        ensures done { MatchResult result (λ _. cards_of self.new ≡ with_clock (cards_of self.old) (record { number = number; period = period; deadline = deadline; cost = cost })) (λ _. self.new ≡ self.old) }
+    pub fn add_timed_card(&mut self, number: u8, parts: TimedParts) -> Result<(), Refusal>
+        ensures refusal { refusal_in result ≡ clock_refused (cards_of self.old) (clock_given number parts) }
+        ensures done { MatchResult result (λ _. cards_of self.new ≡ with_clock (cards_of self.old) (clock_given number parts)) (λ _. self.new ≡ self.old) }
     {
         if number == 0 || self.uses(number) {
             return Err(Refusal::NumberTaken);
@@ -110,7 +89,7 @@ impl Deck {
         if self.timeds.len() >= 16 {
             return Err(Refusal::NoPlace);
         }
-        let timed = Timed::new(period, deadline, cost)?;
+        let timed = Timed::new(parts)?;
         self.add_timed(TimedCard { number, timed });
         Ok(())
     }

@@ -4,22 +4,24 @@ ghost use Rattle.engine.specs.Limits.{every};
 ghost use Rattle.engine.specs.Views.{numbers_of};
 ghost use Rattle.deck.specs.Tables.{right_card, cranks_in};
 
-use crate::tables::{CrankTable, TimedTable};
+use crate::cards::{CrankCard, TimedCard};
 use engine::engine::Engine;
+use table::few::Few;
 
 // An engine and cards that are right for it.
 #[derive(Clone, Copy)]
 pub struct Deck {
     pub engine: Engine,
-    pub cranks: CrankTable,
-    pub timeds: TimedTable,
+    // in rising order of their numbers
+    pub cranks: Few<CrankCard, 4>,
+    // likewise
+    pub timeds: Few<TimedCard, 16>,
     ghost right: { every (right_card (numbers_of engine)) (cranks_in cranks) ≡ true },
 }
 
-// Where the card of a number stands: its table and its index there, or nowhere.
+// Where a card stands: its table and its index there.
 #[derive(Clone, Copy)]
 pub enum Place {
     Crank(usize),
     Timed(usize),
-    Nowhere,
 }

@@ -1,89 +1,38 @@
 // Judging: the summed demand of all tasks, and the verdict over it.
-ghost use Rattle.std.specs.Prelude.{◌≡◌, ◌+◌, ◌*◌, ◌<◌, [], ◌∷◌, map, length, IfOk, None, MatchResult, slice_index_or};
+ghost use Rattle.std.specs.Prelude.{◌≡◌, ◌+◌, ◌*◌, map, length, Some, IfOk, MatchResult};
+ghost use Rattle.std.specs.List.{AllPass};
 ghost use Rattle.refusal.specs.Numbers.{refusal_in};
-ghost use Rattle.task.specs.Kinds.{share_graph, entry_graph, timed_graph};
-ghost use Rattle.engine.specs.Views.{numbers_of, parts_of};
-ghost use Rattle.bands.specs.Graphs.{bands_graph};
+ghost use Rattle.engine.specs.Views.{numbers_of};
 ghost use Rattle.demand.specs.Judged.{lent_refusal};
-ghost use Rattle.deck.specs.Tables.{Crank, Clock, cranks_in, clocks_in};
+ghost use Rattle.demand.specs.Table.{Spared};
 ghost use Rattle.deck.specs.Cards.{cards_of};
-ghost use Rattle.deck.specs.Judging.{crank_graph, clock_graph, tasks, Judged, mark_of};
+ghost use Rattle.deck.specs.Judging.{tasks, Judged, mark_of};
 ghost use Rattle.deck.specs.EveryRun.{Promises};
-ghost use Rattle.deck.specs.Sums.{Grown, Spared, Decides};
+ghost use Rattle.deck.specs.Sums.{Grown, Decides};
 
 use crate::deck::Deck;
+use crate::task_card::TaskCard;
 use crate::verdict::Verdict;
-use bands::kind::Bands;
 use demand::{add, check_lent, clear, first_over};
+use engine::engine::Engine;
 use refusal::Refusal;
 use task::interface::Task;
-use task::kinds::Timed;
-use task::layers::{Entry, Shared};
 
-// Adds the demand of one task to the totals.
-fn add_task<T: Task>(task: &T, horizon: u32, work: &mut [u32], totals: &mut [u64])
-    requires { lent_refusal horizon (length work.old) (length totals.old) ≡ None }
-    ensures sums { Grown (T.Task.graph task.now ∷ []) horizon totals.old totals.new }
-    ensures spare { Spared (24 * (horizon + 1)) work.old work.new }
+// Adds the demand of each card, as a task with this engine, to the totals.
+fn add_cards<C: TaskCard>(
+    cards: &[C],
+    engine: &Engine,
+    horizon: u32,
+    work: &mut [u32],
+    totals: &mut [u64],
+) -> Result<(), Refusal>
+    requires { AllPass (C.right (numbers_of engine.now)) cards.now }
+    ensures { MatchResult result (λ _. Grown (map (C.graph (numbers_of engine.now)) cards.now) horizon totals.old totals.new × Spared (24 * (horizon + 1)) work.old work.new) (λ e. lent_refusal horizon (length work.old) (length totals.old) ≡ Some e) }
 {
-    let _ = add(task, horizon, work, totals);
-}
-
-impl Deck {
-    // The engine card at an index as a task: its share over the entry cost over its bands.
-    pub(crate) fn crank_task(&self, at: usize) -> Shared<Entry<Bands>>
-        requires { at < self.now.cranks.used }
-        ensures { (d : Crank) → share_graph result.share.thousandths (entry_graph result.below.entry.ticks (bands_graph (numbers_of result.below.below.engine) (parts_of result.below.below.card))) ≡ crank_graph (numbers_of self.now.engine) (slice_index_or (cranks_in self.now.cranks) at d) }
-    {
-        let held = self.cranks.table[at];
-        let bands = Bands {
-            engine: self.engine,
-            card: held.card,
-        };
-        let entered = Entry {
-            below: bands,
-            entry: self.engine.entry,
-        };
-        Shared {
-            below: entered,
-            share: held.share,
-        }
+    for card in cards {
+        add(&card.task(engine), horizon, work, totals)?;
     }
-
-    // The timed card at an index as a task: the entry cost over its timing.
-    pub(crate) fn timed_task(&self, at: usize) -> Entry<Timed>
-        requires { at < self.now.timeds.used }
-        ensures { (d : Clock) → entry_graph result.entry.ticks (timed_graph result.below.period result.below.deadline result.below.cost) ≡ clock_graph (numbers_of self.now.engine) (slice_index_or (clocks_in self.now.timeds) at d) }
-    {
-        Entry {
-            below: self.timeds.table[at].timed,
-            entry: self.engine.entry,
-        }
-    }
-
-    // Adds the demands of all engine cards to the totals.
-    fn add_cranks(&self, horizon: u32, work: &mut [u32], totals: &mut [u64])
-        requires { lent_refusal horizon (length work.old) (length totals.old) ≡ None }
-        ensures sums { Grown (map (crank_graph (numbers_of self.now.engine)) (cranks_in self.now.cranks)) horizon totals.old totals.new }
-        ensures spare { Spared (24 * (horizon + 1)) work.old work.new }
-    {
-        for at in 0..self.cranks.used {
-            let task = self.crank_task(at);
-            add_task(&task, horizon, work, totals);
-        }
-    }
-
-    // Adds the demands of all timed cards to the totals.
-    fn add_timeds(&self, horizon: u32, work: &mut [u32], totals: &mut [u64])
-        requires { lent_refusal horizon (length work.old) (length totals.old) ≡ None }
-        ensures sums { Grown (map (clock_graph (numbers_of self.now.engine)) (clocks_in self.now.timeds)) horizon totals.old totals.new }
-        ensures spare { Spared (24 * (horizon + 1)) work.old work.new }
-    {
-        for at in 0..self.timeds.used {
-            let task = self.timed_task(at);
-            add_task(&task, horizon, work, totals);
-        }
-    }
+    Ok(())
 }
 
 impl Verdict {
@@ -126,9 +75,9 @@ impl Deck {
     {
         check_lent(horizon, work.len(), totals.len())?;
         clear(totals, horizon);
-        self.add_cranks(horizon, work, totals);
-        self.add_timeds(horizon, work, totals);
-        add_task(guest, horizon, work, totals);
+        add_cards(self.cranks.as_slice(), &self.engine, horizon, work, totals)?;
+        add_cards(self.timeds.as_slice(), &self.engine, horizon, work, totals)?;
+        add(guest, horizon, work, totals)?;
         Ok(Verdict::over(totals, horizon))
     }
 }

@@ -7,7 +7,7 @@ pub mod held;
 pub mod judging;
 pub mod places;
 pub mod rungs;
-pub mod tables;
+mod task_card;
 pub mod telling;
 pub mod verdict;
 pub mod worked;

@@ -1,5 +1,5 @@
 // How a card is found in a deck, put in, changed and taken out.
-ghost use Rattle.std.specs.Prelude.{◌≡◌, ◌<◌, true, false, MatchResult};
+ghost use Rattle.std.specs.Prelude.{◌≡◌, ◌<◌, true, false, not, MatchResult};
 ghost use Rattle.refusal.specs.Numbers.{refusal_in};
 ghost use Rattle.engine.specs.Views.{numbers_of};
 ghost use Rattle.deck.specs.Tables.{right_card, crank_of, clock_of};
@@ -11,39 +11,32 @@ use crate::cards::{CrankCard, TimedCard};
 use crate::deck::{Deck, Place};
 use engine::engine::Engine;
 use refusal::Refusal;
-use table::find;
 
 impl Deck {
-    // Where the card of this number stands.
-    pub(crate) fn place(&self, number: u8) -> Place
+    // Where the card of this number stands, if there is one.
+    pub(crate) fn place(&self, number: u8) -> Option<Place>
         ensures { StandsAt self.now number result }
     {
         let key = u32::from(number);
-        if let Some(at) = find(&self.cranks.table, self.cranks.used, key) {
-            return Place::Crank(at);
+        if let Some(at) = self.cranks.find(key) {
+            return Some(Place::Crank(at));
         }
-        match find(&self.timeds.table, self.timeds.used, key) {
-            Some(at) => Place::Timed(at),
-            None => Place::Nowhere,
-        }
+        let at = self.timeds.find(key)?;
+        Some(Place::Timed(at))
     }
 
     // Whether some card has this number.
     pub(crate) fn uses(&self, number: u8) -> bool
         ensures { result ≡ in_use (cards_of self.now) number }
     {
-        match self.place(number) {
-            Place::Crank(_) => true,
-            Place::Timed(_) => true,
-            Place::Nowhere => false,
-        }
+        self.place(number).is_some()
     }
 
-    // Whether any card stands in the deck.
-    pub(crate) fn has_cards(&self) -> bool
-        ensures { result ≡ cards_present (cards_of self.now) }
+    // Whether no card stands in the deck.
+    pub(crate) fn is_empty(&self) -> bool
+        ensures { result ≡ not (cards_present (cards_of self.now)) }
     {
-        !(self.cranks.len() == 0 && self.timeds.len() == 0)
+        self.cranks.as_slice().is_empty() && self.timeds.as_slice().is_empty()
     }
 
     // Another engine, in a deck without cards.
@@ -60,7 +53,7 @@ impl Deck {
         requires right { right_card (numbers_of self.old.engine) (crank_of card) ≡ true }
         ensures { cards_of self.new ≡ with_crank (cards_of self.old) (crank_of card) }
     {
-        self.cranks.add(card);
+        self.cranks.insert(card);
     }
 
     // One more timed card.
@@ -68,7 +61,7 @@ impl Deck {
         requires { self.old.timeds.used < 16 }
         ensures { cards_of self.new ≡ with_clock (cards_of self.old) (clock_of card) }
     {
-        self.timeds.add(card);
+        self.timeds.insert(card);
     }
 
     // Changes in place the cost of one mode of the card of this number.
@@ -77,9 +70,15 @@ impl Deck {
         ensures done { MatchResult result (λ _. cards_of self.new ≡ with_recost (cards_of self.old) number index cost) (λ _. self.new ≡ self.old) }
     {
         match self.place(number) {
-            Place::Crank(at) => self.cranks.recost(number, at, index, cost),
-            Place::Timed(at) => self.timeds.recost(number, at, index, cost),
-            Place::Nowhere => Err(Refusal::NoSuchCard),
+            Some(Place::Crank(at)) => {
+                let cranks = &mut self.cranks.table[..];
+                cranks[at].recost(index, cost)
+            }
+            Some(Place::Timed(at)) => {
+                let timeds = &mut self.timeds.table[..];
+                timeds[at].recost(index, cost)
+            }
+            None => Err(Refusal::NoSuchCard),
         }
     }
 
@@ -90,9 +89,12 @@ impl Deck {
     {
         let engine = self.engine;
         match self.place(number) {
-            Place::Crank(at) => self.cranks.cut(&engine, number, at, speed),
-            Place::Timed(_) => Err(Refusal::BandList),
-            Place::Nowhere => Err(Refusal::NoSuchCard),
+            Some(Place::Crank(at)) => {
+                let cranks = &mut self.cranks.table[..];
+                cranks[at].cut(&engine, speed)
+            }
+            Some(Place::Timed(_)) => Err(Refusal::BandList),
+            None => Err(Refusal::NoSuchCard),
         }
     }
 
@@ -102,9 +104,9 @@ impl Deck {
         ensures done { MatchResult result (λ _. cards_of self.new ≡ with_drop (cards_of self.old) number) (λ _. self.new ≡ self.old) }
     {
         match self.place(number) {
-            Place::Crank(at) => self.cranks.take_out(number, at),
-            Place::Timed(at) => self.timeds.take_out(number, at),
-            Place::Nowhere => return Err(Refusal::NoSuchCard),
+            Some(Place::Crank(at)) => self.cranks.remove(at),
+            Some(Place::Timed(at)) => self.timeds.remove(at),
+            None => return Err(Refusal::NoSuchCard),
         }
         Ok(())
     }

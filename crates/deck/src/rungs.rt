@@ -17,9 +17,7 @@ impl Deck {
         if !self.uses(number) {
             return Err(Refusal::NoSuchCard);
         }
-        match ladder::rung(rung) {
-            Some(speed) => self.cut(number, speed),
-            None => Err(Refusal::BandList),
-        }
+        let speed = ladder::rung(rung).ok_or(Refusal::BandList)?;
+        self.cut(number, speed)
     }
 }

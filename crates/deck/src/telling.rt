@@ -7,12 +7,10 @@ ghost use Rattle.demand.specs.Table.{Spared};
 ghost use Rattle.deck.specs.Telling.{tell_refused, task_at};
 
 use crate::deck::{Deck, Place};
-use bands::kind::Bands;
+use crate::task_card::TaskCard;
 use demand::{Told, ToldJob, greatest_walk};
 use refusal::Refusal;
 use task::interface::Task;
-use task::kinds::Timed;
-use task::layers::{Entry, Shared};
 
 impl Deck {
     // Tells a walk that has the greatest demand of the window, of the card of this number or, for
@@ -33,9 +31,19 @@ impl Deck {
             return greatest_walk(guest, window, work, jobs);
         }
         match self.place(number) {
-            Place::Crank(at) => greatest_walk(&self.crank_task(at), window, work, jobs),
-            Place::Timed(at) => greatest_walk(&self.timed_task(at), window, work, jobs),
-            Place::Nowhere => Err(Refusal::NoSuchCard),
+            Some(Place::Crank(at)) => greatest_walk(
+                &self.cranks.table[at].task(&self.engine),
+                window,
+                work,
+                jobs,
+            ),
+            Some(Place::Timed(at)) => greatest_walk(
+                &self.timeds.table[at].task(&self.engine),
+                window,
+                work,
+                jobs,
+            ),
+            None => Err(Refusal::NoSuchCard),
         }
     }
 }

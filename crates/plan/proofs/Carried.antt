@@ -12,7 +12,7 @@ use Rattle.deck.specs.declared.verdict.Verdict.{Verdict}
 use Rattle.deck.specs.Judging.{tasks, Says, mark_of}
 use Rattle.deck.specs.Telling.{tell_refused, task_at}
 use Rattle.plan.specs.Standing.{Standing, changed}
-use Rattle.plan.specs.History.{Change, change, judge, tell, done, refused, verdict, told, marked, change_refused, with_change, left, judging, telling, sealing, marking}
+use Rattle.plan.specs.History.{Change, change, judge, tell, done, refused, verdict, told, marked, change_refused, with_change, left, changing, judging, telling, sealing, marking}
 use Rattle.plan.specs.EveryHistory.{ToldWalk, ByTable, Carries}
 use Rattle.plan.proofs.Histories.{carries}
 
@@ -28,6 +28,11 @@ module _ (s s' : Standing) (c : Change) where
       carries false s (record { call = change c; answer = refused x }) s' refl
       (subst (λ o. ByTable s o (record { call = change c; answer = refused x })) some refl)
       (ap (λ o. left s o (change c) (refused x)) (sym some) ∙ sym leaves)
+
+-- a change is done, or refused, as its call answers
+pub change_carries : {U : Type 0} (s s' : Standing) (c : Change) (r : Result U Refusal) → refusal_in r ≡ change_refused s.cards c → MatchResult r (λ _. s' ≡ changed (with_change s.cards c)) (λ _. s' ≡ s) → Carries false s (changing c r) false s'
+change_carries s s' c (Ok u) none leaves = done_carries s s' c none leaves
+change_carries s s' c (Err x) some leaves = refused_carries s s' c x some leaves
 
 module _ (s s' : Standing) (g : Graph) (law : Lawful g) (horizon work totals : ℕ) where
   pub judge_carries : (r : Result Verdict Refusal) → refusal_in r ≡ lent_refusal horizon work totals → MatchResult r (λ v. Says v (tasks s.cards g) horizon × (s' ≡ record { cards = s.cards; mark = mark_of v })) (λ _. s' ≡ s) → Carries false s (judging g horizon work totals r) false s'

@@ -8,8 +8,7 @@ use Rattle.ladder.specs.Rungs.{rung_speed}
 use Rattle.engine.specs.Limits.{between, cost_ok, every}
 use Rattle.deck.specs.Tables.{Crank, Clock, right_card}
 use Rattle.deck.specs.Cards.{Cards}
-use Rattle.deck.specs.Calls.{crank_at, clock_at, in_use, clock_ok, no_cut, no_rung_cut, crank_recosted, clock_recosted, crank_cut, with_cranks, with_clocks, with_rung_cut, with_cut}
-use Rattle.plan.proofs.Checks.{engine_checks, crank_checks, clock_checks, recost_checks, cut_checks, rung_cut_checks}
+use Rattle.deck.specs.Calls.{engine_checks, crank_checks, clock_checks, recost_checks, cut_checks, rung_cut_checks, crank_at, clock_at, in_use, clock_ok, no_cut, no_rung_cut, crank_recosted, clock_recosted, crank_cut, with_cranks, with_clocks, with_rung_cut, with_cut}
 use Rattle.deck.proofs.Refused.{none_some}
 use Rattle.deck.proofs.Rights.{every_insert, every_without, every_change, every_none, recosted_right, cut_card_right}
 use Rattle.deck.proofs.Sound.{Sound, crank_ok}

@@ -1,4 +1,3 @@
-mod Checks
 pub mod Kept
 pub mod Apart
 pub mod Counted

@@ -1,40 +1,46 @@
-use Rattle.std.proofs.Common.{length, ◌∙◌}
+use Rattle.std.proofs.Common.{length, Some, sym, ◌∙◌}
 use Rattle.std.proofs.lemmas.Bool.{ne_eqb}
 use Rattle.deck.specs.Cards.{cards_of}
-use Rattle.deck.proofs.Decks.{crank_in_use, clock_in_use}
+use Rattle.deck.proofs.Rights.{crank_right}
+use Rattle.deck.proofs.Decks.{stands_in_use}
 use Rattle.deck.proofs.Tellings.{tell_passes, crank_told, clock_told, told_as}
 use Rattle.deck.proofs.deck.Deck.tell.Goals as goal
 
--- src/telling.rt:30:5
-pub returns-in-Crank : goal.returns-in-Crank
-returns-in-Crank g c =
+pub task-requires : goal.task-requires
+task-requires g c =
+    let at = rw c.in-Some-Crank.field-0-is at c.in-Some-Crank.ensures in
+    crank_right c.args.self.now c.in-Some-Crank.at c.index-self-at.result at.0
+
+pub returns-in-Some-Crank : goal.returns-in-Some-Crank
+returns-in-Some-Crank g c =
     let deck = c.args.self.now in
     let n = c.args.number in
-    let at = c.in-Crank.ensures in
+    let at = rw c.in-Some-Crank.field-0-is at c.in-Some-Crank.ensures in
+    let walk = c.greatest_walk-in-Some-Crank in
     record {
       refusal =
-          c.greatest_walk-in-Crank.ensures.refusal
-          ∙ tell_passes (cards_of deck) n c.args.window (length c.args.work.now) (length c.args.jobs.now) (crank_in_use deck n c.in-Crank.at at);
+          walk.ensures.refusal
+          ∙ tell_passes (cards_of deck) n c.args.window (length c.args.work.now) (length c.args.jobs.now) (sym (stands_in_use deck n (Some c.in-Some-Crank.field-0) c.in-Some-Crank.ensures));
       told =
-          told_as _ _ c.args.window c.args.jobs.now _ _ c.greatest_walk-in-Crank.result
-          (crank_told deck _ (g.G.Task.graph c.args.guest.now) n c.in-Crank.at (ne_eqb n 0 c.if-number-eq0.false) at c.crank_task.ensures)
-          c.greatest_walk-in-Crank.ensures.told;
-      spare = c.greatest_walk-in-Crank.ensures.spare;
+          told_as _ _ c.args.window c.args.jobs.now _ _ walk.result
+          (c.task.ensures ∙ crank_told deck (g.G.Task.graph c.args.guest.now) n c.in-Some-Crank.at (ne_eqb n 0 c.if-number-eq0.false) c.index-self-at.result at)
+          walk.ensures.told;
+      spare = walk.ensures.spare;
     }
 
--- src/telling.rt:30:5
-pub returns-in-Timed : goal.returns-in-Timed
-returns-in-Timed g c =
+pub returns-in-Some-Timed : goal.returns-in-Some-Timed
+returns-in-Some-Timed g c =
     let deck = c.args.self.now in
     let n = c.args.number in
-    let at = c.in-Timed.ensures in
+    let at = rw c.in-Some-Timed.field-0-is at c.in-Some-Timed.ensures in
+    let walk = c.greatest_walk-in-Some-Timed in
     record {
       refusal =
-          c.greatest_walk-in-Timed.ensures.refusal
-          ∙ tell_passes (cards_of deck) n c.args.window (length c.args.work.now) (length c.args.jobs.now) (clock_in_use deck n c.in-Timed.at at.1);
+          walk.ensures.refusal
+          ∙ tell_passes (cards_of deck) n c.args.window (length c.args.work.now) (length c.args.jobs.now) (sym (stands_in_use deck n (Some c.in-Some-Timed.field-0) c.in-Some-Timed.ensures));
       told =
-          told_as _ _ c.args.window c.args.jobs.now _ _ c.greatest_walk-in-Timed.result
-          (clock_told deck _ (g.G.Task.graph c.args.guest.now) n c.in-Timed.at (ne_eqb n 0 c.if-number-eq0.false) at.0 at.1 c.timed_task.ensures)
-          c.greatest_walk-in-Timed.ensures.told;
-      spare = c.greatest_walk-in-Timed.ensures.spare;
+          told_as _ _ c.args.window c.args.jobs.now _ _ walk.result
+          (c.task-in-Some-Timed.ensures ∙ clock_told deck (g.G.Task.graph c.args.guest.now) n c.in-Some-Timed.at (ne_eqb n 0 c.if-number-eq0.false) c.index-self-at-in-Some-Timed.result at.0 at.1)
+          walk.ensures.told;
+      spare = walk.ensures.spare;
     }

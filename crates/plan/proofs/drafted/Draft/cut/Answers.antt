@@ -1,28 +1,9 @@
-use Rattle.std.proofs.Common.{ap}
-use Rattle.std.proofs.lemmas.Result.{err_from_is_err_and}
-use Rattle.plan.specs.Standing.{changed, stands}
-use Rattle.plan.proofs.Kept.{kept_none, kept_same, same_draft}
-use Rattle.plan.proofs.Carried.{done_carries, refused_carries}
+use Rattle.std.proofs.Common.{rules}
+use Rattle.plan.specs.Standing.{stands}
+use Rattle.plan.specs.History as calls
+use Rattle.plan.proofs.Carried.{change_carries}
 use Rattle.plan.proofs.drafted.Draft.cut.Goals as goal
 
-pub invariant_of-self : goal.invariant_of-self
-invariant_of-self c =
-    let draft = c.args.self.now in
-    record { kept = kept_same draft.deck c.cut.new.self draft.mark c.in_err-cut.ensures.done draft.kept }
-
-pub returns-in_err-cut : goal.returns-in_err-cut
-returns-in_err-cut c =
-    let draft = c.args.self.now in
-    let told = c.in_err-cut.ensures in
-    let p = err_from_is_err_and c.from_residual.result c.from_residual.ensures.1 in
-    let same = same_draft draft c.cut.new.self _ told.done in
-    rw (p.1, p.2) (record { refusal = told.refusal; done = same; history = refused_carries (stands draft) _ _ _ told.refusal (ap stands same) })
-
-pub invariant_of-self-2 : goal.invariant_of-self-2
-invariant_of-self-2 c = record { kept = kept_none c.cut.new.self }
-
-pub returns : goal.returns
-returns c =
-    let told = c.in_ok-cut.ensures in
-    let done = ap changed told.done in
-    record { refusal = told.refusal; done = done; history = done_carries (stands c.args.self.now) _ _ told.refusal done }
+pub returns-clause-history : goal.returns-clause-history
+returns-clause-history c =
+    change_carries (stands c.args.self.now) (stands c.change.new.self) (calls.cut c.args.number c.args.speed) c.change.result (search rules) (search rules)
