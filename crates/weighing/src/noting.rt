@@ -2,7 +2,7 @@
 ghost use Rattle.std.specs.Prelude.{◌≡◌, [], OnOk};
 ghost use Rattle.weighing.specs.Pending.{pending_of, no_card, noted};
 
-use crate::open_card::OpenCard;
+use crate::open_card::{Found, OpenCard};
 use engine::card::Mode;
 use records::record::Record;
 use std::alloc::{AllocError, Global};
@@ -34,17 +34,17 @@ impl OpenCard {
         self.bands.clear();
     }
 
-    // Gathers what a record at a byte place says of the card; other records leave it as it is.
-    pub fn note(&mut self, at: usize, record: Record) -> Result<(), AllocError>
-        ensures { OnOk result (pending_of self.new ≡ noted (pending_of self.old) at «record») }
+    // Gathers what a record that was read says of the card; other records leave it as it is.
+    pub fn note(&mut self, found: Found) -> Result<(), AllocError>
+        ensures { OnOk result (pending_of self.new ≡ noted (pending_of self.old) found.at found.record) }
     {
-        match record {
+        match found.record {
             Record::Card {
                 number,
                 angle,
                 share,
                 ..
-            } => self.begin(at, number, angle, share),
+            } => self.begin(found.at, number, angle, share),
             Record::Mode { lower, cost } => self.modes.push(Mode { lower, cost })?,
             Record::Band { lower } => self.bands.push(lower)?,
             _ => {}
