@@ -55,6 +55,7 @@ impl Kind {
     pub fn decode(self, bytes: &[u8]) -> Option<Record>
         ensures { result ≡ read_body self bytes.now }
     {
+        // A match: each kind has fields of its own, and a table of functions would be no plainer.
         match self {
             Kind::Engine => engine(bytes),
             Kind::Card => card(bytes),

@@ -82,6 +82,7 @@ impl Scales {
         ensures { Takes (stands self.old.plan) (pending_of card.now) state «record» (stands self.new.plan) result }
     {
         let head = record.head();
+        // A match: each record makes a call of its own, and closures for them would be no plainer.
         match record {
             Record::Engine {
                 least,

@@ -29,10 +29,7 @@ impl fmt::Display for Line {
             Line::Done => write!(f, "ok"),
             Line::Fits { horizon } => write!(f, "fits {horizon}"),
             Line::Over { at, total } => write!(f, "over {at} {total}"),
-            Line::No { refusal, at } => {
-                let number = refusal.number();
-                write!(f, "no {number} at {at}")
-            }
+            Line::No { refusal, at } => write!(f, "no {} at {at}", refusal.number()),
         }
     }
 }

@@ -22,15 +22,21 @@ use std::ops::ControlFlow::{self, Break, Continue};
 
 // The greatest input, in bytes.
 const MOST_BYTES: usize = 2048;
-// Whether a record that is refused so ends the reading.
-fn ends(record: Record, refusal: Refusal) -> bool
-    ensures { result ≡ ends_reading «record» refusal }
-{
-    matches!(record, Record::Card { .. })
-        || matches!(
-            refusal,
-            Refusal::EngineLimits | Refusal::UnknownKind | Refusal::CutShort | Refusal::OutOfTurn
-        )
+
+impl Found {
+    // Whether the reading ends where this record is refused so.
+    fn ends(self, refusal: Refusal) -> bool
+        ensures { result ≡ ends_reading self.record refusal }
+    {
+        matches!(self.record, Record::Card { .. })
+            || matches!(
+                refusal,
+                Refusal::EngineLimits
+                    | Refusal::UnknownKind
+                    | Refusal::CutShort
+                    | Refusal::OutOfTurn
+            )
+    }
 }
 
 impl OpenCard {
@@ -82,7 +88,7 @@ impl<'a> Run<'a> {
             Ok(line) => Continue(line),
             Err(fault) => {
                 let line = Some(Line::from(fault));
-                if ends(found.record, fault.refusal) {
+                if found.ends(fault.refusal) {
                     Break(line)
                 } else {
                     Continue(line)
@@ -110,7 +116,7 @@ impl<'a> Run<'a> {
 }
 
 // Adds a turn's line, where it has one.
-fn print(lines: &mut Vec<Line>, line: Option<Line>) -> Result<(), AllocError>
+fn append(lines: &mut Vec<Line>, line: Option<Line>) -> Result<(), AllocError>
     ensures { OnOk result (lines.new.items ≡ lines.old.items ++ option_to_list line) }
 {
     if let Some(line) = line {
@@ -131,9 +137,9 @@ fn run_file(heap: Global, bytes: &[u8]) -> Result<Vec<Line>, AllocError>
     };
     loop {
         match run.turn()? {
-            Continue(line) => print(&mut lines, line)?,
+            Continue(line) => append(&mut lines, line)?,
             Break(line) => {
-                print(&mut lines, line)?;
+                append(&mut lines, line)?;
                 return Ok(lines);
             }
         }
