@@ -1,6 +1,7 @@
 #![tactic(auto)]
 // weigh: reads a plan file from standard input, and prints a line for each of its records.
 ghost use Rattle.std.specs.Prelude.{◌≡◌, take, IfOk, IfSome};
+ghost use Rattle.std.specs.Option.{option_map};
 
 use std::alloc::Global;
 use std::io;
@@ -12,7 +13,7 @@ const MOST: usize = 2049;
 
 // The bytes of an input, up to its end or to the most that are read.
 fn fill<R: Read + Drop>(heap: Global, input: R) -> io::Result<Vec<u8>>
-    ensures { IfOk result (λ file. IfSome (R.remaining input) (λ bytes. file.items ≡ take MOST bytes)) }
+    ensures { IfOk result (λ file. IfSome (option_map (take MOST) (R.remaining input)) (λ bytes. file.items ≡ bytes)) }
 {
     let mut file = Vec::new(heap);
     input.take(MOST as u64).read_to_end(&mut file)?;
