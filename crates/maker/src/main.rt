@@ -7,6 +7,7 @@ use engine::card::Mode;
 use plan::drafted::Draft;
 use plan::sealed::Sealed;
 use refusal::Refusal;
+use std::fmt::{self, Display};
 use task::kinds::{Empty, Timed};
 
 // Memory to lend, enough for windows of up to 200 ticks.
@@ -23,29 +24,48 @@ const NO_JOB: ToldJob = ToldJob {
     due: 0,
 };
 
-fn print_change(rt: &HostRuntime, call: &str, answer: Result<(), Refusal>) -> anyhow::Result<()> {
-    match answer {
-        Ok(()) => println!(rt; "{call}: ok")?,
-        Err(refusal) => {
-            let number = refusal.number();
-            println!(rt; "{call}: no {number}")?
+// A verdict as text.
+#[derive(Drop)]
+struct Judged(Verdict);
+
+impl fmt::Display for Judged {
+    fn fmt<W: fmt::Write>(&self, f: &mut fmt::Formatter<W>) -> fmt::Result {
+        match self.0 {
+            Verdict::Fits { horizon } => write!(f, "fits {horizon}"),
+            Verdict::Over { at, total } => write!(f, "over {at} {total}"),
         }
+    }
+}
+
+// What tell answered, as text.
+#[derive(Drop)]
+struct Walked(Told);
+
+impl fmt::Display for Walked {
+    fn fmt<W: fmt::Write>(&self, f: &mut fmt::Formatter<W>) -> fmt::Result {
+        write!(f, "jobs {}, demand {}", self.0.count, self.0.demand)
+    }
+}
+
+// Prints what a call answered: its value, or the number of its refusal.
+fn print_answer<C: Display + Drop, T: Display + Drop>(
+    rt: &HostRuntime,
+    call: C,
+    answer: Result<T, Refusal>,
+) -> anyhow::Result<()> {
+    match answer {
+        Ok(value) => println!(rt; "{call}: {value}")?,
+        Err(refusal) => println!(rt; "{call}: no {}", refusal.number())?,
     }
     Ok(())
 }
 
+fn print_change(rt: &HostRuntime, call: &str, answer: Result<(), Refusal>) -> anyhow::Result<()> {
+    print_answer(rt, call, answer.map(|()| "ok"))
+}
+
 fn print_verdict(rt: &HostRuntime, answer: Result<Verdict, Refusal>) -> anyhow::Result<()> {
-    match answer {
-        Ok(verdict) => match verdict {
-            Verdict::Fits { horizon } => println!(rt; "judge: fits {horizon}")?,
-            Verdict::Over { at, total } => println!(rt; "judge: over {at} {total}")?,
-        },
-        Err(refusal) => {
-            let number = refusal.number();
-            println!(rt; "judge: no {number}")?
-        }
-    }
-    Ok(())
+    print_answer(rt, "judge", answer.map(Judged))
 }
 
 fn print_told(
@@ -55,22 +75,14 @@ fn print_told(
     answer: Result<Told, Refusal>,
     jobs: &[ToldJob],
 ) -> anyhow::Result<()> {
-    match answer {
-        Ok(told) => {
-            let count = told.count;
-            let demand = told.demand;
-            println!(rt; "tell {number} at {window}: jobs {count}, demand {demand}")?;
-            for job in jobs.iter().take(count as usize) {
-                let place = job.place;
-                let release = job.release;
-                let cost = job.cost;
-                let due = job.due;
-                println!(rt; "  place {place}: released at {release}, cost {cost}, due at {due}")?;
-            }
-        }
-        Err(refusal) => {
-            let refused = refusal.number();
-            println!(rt; "tell {number} at {window}: no {refused}")?
+    let call = format_args!("tell {number} at {window}");
+    print_answer(rt, call, answer.map(Walked))?;
+    if let Ok(told) = answer {
+        for job in jobs.iter().take(told.count as usize) {
+            println!(rt;
+                "  place {}: released at {}, cost {}, due at {}",
+                job.place, job.release, job.cost, job.due
+            )?;
         }
     }
     Ok(())
@@ -132,8 +144,7 @@ fn cast(
     print_told(rt, 7, 30, told, jobs)?;
     let told = plan.tell(&Empty, 8, 30, work, jobs);
     print_told(rt, 8, 30, told, jobs)?;
-    let mark = plan.mark();
-    println!(rt; "mark: {mark}")?;
+    println!(rt; "mark: {}", plan.mark())?;
     Ok(())
 }
 
@@ -148,10 +159,8 @@ fn main(rt: HostRuntime) -> anyhow::Result<()> {
     };
     let verdict = plan.judge(&guest, 200, &mut work, &mut totals);
     print_verdict(&rt, verdict)?;
-    if let Ok(verdict) = verdict {
-        if let Verdict::Over { at, .. } = verdict {
-            explain(&rt, &plan, &guest, at, &mut work, &mut jobs)?;
-        }
+    if let Ok(Verdict::Over { at, .. }) = verdict {
+        explain(&rt, &plan, &guest, at, &mut work, &mut jobs)?;
     }
     print_change(&rt, "recost 7, mode 0", plan.recost(7, 0, 3))?;
     print_verdict(&rt, plan.judge(&guest, 200, &mut work, &mut totals))?;

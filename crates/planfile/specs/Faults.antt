@@ -1,8 +1,10 @@
 -- How a refusal becomes a fault of a record, and that a fault of the file.
-use Rattle.std.specs.Prelude.{ℕ, Some, Ok, Err, Option, Result}
+use Rattle.std.specs.Prelude.{ℕ, Some, None, Ok, Err, Option, Result}
 use Rattle.refusal.specs.declared.Refusal.{Refusal}
+use Rattle.refusal.specs.declared.Refusal.TheVariants as refusals
 use Rattle.records.specs.declared.record.Kind.{Kind}
 use Rattle.records.specs.declared.record.Record.{Record}
+use Rattle.records.specs.declared.record.UnknownKind.{UnknownKind}
 use Rattle.records.specs.declared.head.Head.{Head}
 use Rattle.planfile.specs.declared.faults.RecordFault.{RecordFault}
 use Rattle.planfile.specs.declared.faults.FileFault.{FileFault}
@@ -20,6 +22,10 @@ record_fault i = record { kind = i.context.kind; card = i.context.card; refusal 
 -- a record's fault at a place, as the file's
 abbrev pub file_fault : In ℕ RecordFault → FileFault
 file_fault i = record { at = i.context; kind = Some i.fault.kind; card = i.fault.card; refusal = i.fault.refusal }
+
+-- a byte at a place that stands for no kind, as the file's fault
+abbrev pub kind_fault : In ℕ UnknownKind → FileFault
+kind_fault i = record { at = i.context; kind = None; card = 0; refusal = refusals.UnknownKind }
 
 -- an answer with one record, as an answer with the next record
 abbrev pub one : {F : Type 0} → Result Record F → Result (Option Record) F

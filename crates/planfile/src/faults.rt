@@ -1,9 +1,9 @@
 // Faults, which gather what a refusal was about on their way out: the record, then its place.
 ghost use Rattle.std.specs.Prelude.{◌≡◌};
-ghost use Rattle.planfile.specs.Faults.{placed, record_fault, file_fault};
+ghost use Rattle.planfile.specs.Faults.{placed, record_fault, file_fault, kind_fault};
 
 use records::head::Head;
-use records::record::Kind;
+use records::record::{Kind, UnknownKind};
 use refusal::Refusal;
 
 // A refusal of a record.
@@ -34,10 +34,7 @@ pub struct In<C, F> {
 pub fn within<C: Drop, T, F>(context: C, answer: Result<T, F>) -> Result<T, In<C, F>>
     ensures { result ≡ placed context answer }
 {
-    match answer {
-        Ok(value) => Ok(value),
-        Err(fault) => Err(In { context, fault }),
-    }
+    answer.map_err(|fault| In { context, fault })
 }
 
 impl From<In<Head, Refusal>> for RecordFault {
@@ -61,6 +58,19 @@ impl From<In<usize, RecordFault>> for FileFault {
             kind: Some(i.fault.kind),
             card: i.fault.card,
             refusal: i.fault.refusal,
+        }
+    }
+}
+
+impl From<In<usize, UnknownKind>> for FileFault {
+    ghost from_gives = { λ i r. r ≡ kind_fault i };
+
+    fn from(i: In<usize, UnknownKind>) -> FileFault {
+        FileFault {
+            at: i.context,
+            kind: None,
+            card: 0,
+            refusal: Refusal::UnknownKind,
         }
     }
 }

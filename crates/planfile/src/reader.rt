@@ -57,15 +57,8 @@ impl<'a> Reader<'a> {
         match &self.bytes[self.at..] {
             [] => Ok(None),
             [byte, body @ ..] => {
-                let Some(kind) = Kind::of(*byte) else {
-                    return Err(FileFault {
-                        at: self.at,
-                        kind: None,
-                        card: 0,
-                        refusal: Refusal::UnknownKind,
-                    });
-                };
-                let record = within(self.at, record_here(self.state, kind, body))?;
+                let kind = within(self.at, Kind::try_from(*byte))?;
+                let record = within(self.at, self.state.read(kind, body))?;
                 self.at += 1 + kind.body_length();
                 self.state = self.state.after(record);
                 Ok(Some(record))
@@ -74,23 +67,23 @@ impl<'a> Reader<'a> {
     }
 }
 
-// The record of a known kind at the front of the bytes, with a refusal as that record's fault.
-fn record_here(state: Open, kind: Kind, bytes: &[u8]) -> Result<Record, RecordFault>
-    ensures { one result ≡ in_record kind (known state kind bytes.now) }
-{
-    Ok(within(Head { kind, card: 0 }, whole_in_turn(state, kind, bytes))?)
-}
+impl Open {
+    // The record of a known kind at the front of the bytes, with a refusal as that record's fault.
+    fn read(self, kind: Kind, body: &[u8]) -> Result<Record, RecordFault>
+        ensures { one result ≡ in_record kind (known self kind body.now) }
+    {
+        Ok(within(Head { kind, card: 0 }, self.whole_in_turn(kind, body))?)
+    }
 
-// The record of a known kind at the front of the bytes, if it is whole and in turn.
-fn whole_in_turn(state: Open, kind: Kind, bytes: &[u8]) -> Result<Record, Refusal>
-    ensures { one result ≡ known state kind bytes.now }
-{
-    let Some(record) = kind.decode(bytes) else {
-        return Err(Refusal::CutShort);
-    };
-    if state.in_turn(kind) {
-        Ok(record)
-    } else {
-        Err(Refusal::OutOfTurn)
+    // The record of a known kind at the front of the bytes, if it is whole and in turn.
+    fn whole_in_turn(self, kind: Kind, body: &[u8]) -> Result<Record, Refusal>
+        ensures { one result ≡ known self kind body.now }
+    {
+        let record = kind.decode(body).ok_or(Refusal::CutShort)?;
+        if self.in_turn(kind) {
+            Ok(record)
+        } else {
+            Err(Refusal::OutOfTurn)
+        }
     }
 }

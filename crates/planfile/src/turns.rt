@@ -22,14 +22,11 @@ impl Open {
     pub(crate) fn in_turn(self, kind: Kind) -> bool
         ensures { result ≡ in_turn self kind }
     {
-        match (self, kind) {
-            (Open::Start, Kind::Engine) => true,
-            (Open::Start, _) => false,
-            (Open::Between, Kind::Engine | Kind::Mode | Kind::Band) => false,
-            (Open::Between, _) => true,
-            (Open::Modes { .. }, Kind::Mode) => true,
-            (Open::Bands { .. }, Kind::Band) => true,
-            (Open::Modes { .. } | Open::Bands { .. }, _) => false,
+        match self {
+            Open::Start => kind == Kind::Engine,
+            Open::Between => !matches!(kind, Kind::Engine | Kind::Mode | Kind::Band),
+            Open::Modes { .. } => kind == Kind::Mode,
+            Open::Bands { .. } => kind == Kind::Band,
         }
     }
 

@@ -1,3 +1,4 @@
 pub mod Bodies
 pub mod Format
 pub mod Heads
+pub mod Texts

@@ -1,28 +1,38 @@
 // The bytes of a record: its kind byte, and the body of each kind, high byte first.
 ghost use Rattle.std.specs.Prelude.{◌≡◌};
 ghost use Rattle.records.specs.Format.{kind_of, body_length};
-ghost use Rattle.records.specs.Bodies.{read_body};
+ghost use Rattle.records.specs.Bodies.{read_kind, read_body, front_number};
 ghost use Rattle.records.specs.declared.record.Kind.TheVariants as kinds;
 
-use crate::record::{Kind, Record};
+use crate::record::{Kind, Record, UnknownKind};
+
+impl TryFrom<u8> for Kind {
+    type Error = UnknownKind;
+
+    ghost try_from_gives = { λ byte read. read ≡ read_kind byte };
+
+    fn try_from(byte: u8) -> Result<Kind, UnknownKind> {
+        match byte {
+            1 => Ok(Kind::Engine),
+            2 => Ok(Kind::Card),
+            3 => Ok(Kind::Mode),
+            4 => Ok(Kind::Band),
+            5 => Ok(Kind::Timed),
+            6 => Ok(Kind::Recost),
+            7 => Ok(Kind::Cut),
+            8 => Ok(Kind::Drop),
+            9 => Ok(Kind::Judge),
+            _ => Err(UnknownKind(byte)),
+        }
+    }
+}
 
 impl Kind {
-    // The kind that a byte stands for.
+    // The kind that a byte stands for, if any.
     pub fn of(byte: u8) -> Option<Kind>
         ensures { result ≡ kind_of byte }
     {
-        match byte {
-            1 => Some(Kind::Engine),
-            2 => Some(Kind::Card),
-            3 => Some(Kind::Mode),
-            4 => Some(Kind::Band),
-            5 => Some(Kind::Timed),
-            6 => Some(Kind::Recost),
-            7 => Some(Kind::Cut),
-            8 => Some(Kind::Drop),
-            9 => Some(Kind::Judge),
-            _ => None,
-        }
+        Kind::try_from(byte).ok()
     }
 
     // How many bytes follow the kind byte.
@@ -45,18 +55,29 @@ impl Kind {
     pub fn decode(self, bytes: &[u8]) -> Option<Record>
         ensures { result ≡ read_body self bytes.now }
     {
+        // A match: each kind has fields of its own, and a table of functions would be no plainer.
         match self {
             Kind::Engine => engine(bytes),
             Kind::Card => card(bytes),
             Kind::Mode => mode(bytes),
-            Kind::Band => band(bytes),
+            Kind::Band => number(bytes).map(|lower| Record::Band { lower }),
             Kind::Timed => timed(bytes),
             Kind::Recost => recost(bytes),
             Kind::Cut => cut(bytes),
             Kind::Drop => dropped(bytes),
-            Kind::Judge => judge(bytes),
+            Kind::Judge => number(bytes).map(|horizon| Record::Judge { horizon }),
         }
     }
+}
+
+// The number of four bytes at the front of the bytes, which is all that a band or a judge says.
+fn number(bytes: &[u8]) -> Option<u32>
+    ensures { result ≡ front_number bytes.now }
+{
+    let [b3, b2, b1, b0, ..] = *bytes else {
+        return None;
+    };
+    Some(u32::from_be_bytes([b3, b2, b1, b0]))
 }
 
 fn engine(bytes: &[u8]) -> Option<Record>
@@ -98,17 +119,6 @@ fn mode(bytes: &[u8]) -> Option<Record>
     Some(Record::Mode {
         lower: u32::from_be_bytes([l3, l2, l1, l0]),
         cost: u32::from_be_bytes([c3, c2, c1, c0]),
-    })
-}
-
-fn band(bytes: &[u8]) -> Option<Record>
-    ensures { result ≡ read_body kinds.Band bytes.now }
-{
-    let [l3, l2, l1, l0, ..] = *bytes else {
-        return None;
-    };
-    Some(Record::Band {
-        lower: u32::from_be_bytes([l3, l2, l1, l0]),
     })
 }
 
@@ -158,15 +168,4 @@ fn dropped(bytes: &[u8]) -> Option<Record>
         return None;
     };
     Some(Record::Drop { number })
-}
-
-fn judge(bytes: &[u8]) -> Option<Record>
-    ensures { result ≡ read_body kinds.Judge bytes.now }
-{
-    let [h3, h2, h1, h0, ..] = *bytes else {
-        return None;
-    };
-    Some(Record::Judge {
-        horizon: u32::from_be_bytes([h3, h2, h1, h0]),
-    })
 }

@@ -1,4 +1,9 @@
 // The records of a plan file.
+ghost use Rattle.std.specs.Prelude.{Some};
+ghost use Rattle.records.specs.Texts.{unknown_text};
+
+use std::error::Error;
+use std::fmt;
 
 // The kind of a record, told by its first byte.
 #[derive(Clone, Copy, PartialEq, Eq, Debug)]
@@ -13,6 +18,20 @@ pub enum Kind {
     Drop,
     Judge,
 }
+
+// A byte that stands for no kind.
+#[derive(Clone, Copy, PartialEq, Eq, Debug)]
+pub struct UnknownKind(pub u8);
+
+impl fmt::Display for UnknownKind {
+    ghost output = { λ e. Some (unknown_text e) };
+
+    fn fmt<W: fmt::Write>(&self, f: &mut fmt::Formatter<W>) -> fmt::Result {
+        write!(f, "no kind of record has the byte {}", self.0)
+    }
+}
+
+impl Error for UnknownKind {}
 
 // A record with its numbers.
 #[derive(Clone, Copy, PartialEq, Eq, Debug)]

@@ -1,8 +1,7 @@
 -- Every answer holds in the history that the run of a file makes.
-use Rattle.std.proofs.Common.{◌≡◌, ℕ, ◌≤◌, Bool, true, false, ltb, List, [], ◌∷◌, length, Some, None, Ok, Err, MatchBool, Option, sym, refl, ap, ◌∙◌, subst}
+use Rattle.std.proofs.Common.{◌≡◌, ℕ, ◌≤◌, false, List, [], ◌∷◌, length, Some, None, Ok, Err, MatchBool, Option, sym, refl, ap, ◌∙◌, subst}
 use Rattle.std.proofs.lemmas.Bool.{le-ltb}
 use Rattle.refusal.specs.declared.Refusal.{Refusal}
-use Rattle.refusal.specs.declared.Refusal.TheVariants.{ShortMemory}
 use Rattle.task.specs.Kinds.{empty_graph}
 use Rattle.task.specs.Lawful.{empty_lawful}
 use Rattle.demand.specs.Judged.{lent_refusal}
@@ -21,10 +20,10 @@ use Rattle.planfile.specs.declared.turns.Open.{Open}
 use Rattle.planfile.specs.declared.turns.Open.TheVariants as opens
 use Rattle.planfile.specs.Reading.{open_after}
 use Rattle.weighing.specs.declared.line.Line.{Line}
-use Rattle.weighing.specs.declared.line.Line.TheVariants.{Done, No}
+use Rattle.weighing.specs.declared.line.Line.TheVariants.{Done}
 use Rattle.weighing.specs.Lines.{verdict_line}
 use Rattle.weighing.specs.Pending.{Pending, no_card, noted}
-use Rattle.weighing.specs.Running.{Answer, after_call, answer_of, Judging, Takes, Prints, finished, unfinished, faulty, taken, refused, stopped, Weighed}
+use Rattle.weighing.specs.Running.{Answer, after_call, answer_of, Judging, Takes, Prints, finished, unfinished, faulty, taken, refused, stopped}
 use Rattle.weighing.specs.Played.{call_of, reported, answered, with_call, played, LinesHold}
 
 -- the answer of the plan in the answer to a record
@@ -81,15 +80,8 @@ played_holds bytes _ _ _ _ _ (refused s p o at r s' f rest read takes on next) h
 played_holds bytes _ _ _ _ _ (stopped s p o at r s' f read takes ends) h reach =
     (takes_reaches h s s' reach (noted p at r) (open_after o r) r (Err f) takes).holds
 
--- a file that is not too long is run
-pub weighed_short : (bytes : List ℕ) (ls : List Line) → length bytes ≤ 2048 → Prints bytes new_plan no_card opens.Start 0 ls → Weighed bytes ls
-weighed_short bytes ls short run =
-    subst (λ b. MatchBool b (ls ≡ No ShortMemory 2048 ∷ []) (Prints bytes new_plan no_card opens.Start 0 ls)) (sym (le-ltb 2048 (length bytes) short)) run
-
--- what weigh prints, and that it holds
-pub lines_hold : (bytes : List ℕ) (ls : List Line) → Weighed bytes ls → LinesHold bytes ls
-lines_hold bytes ls = go (ltb 2048 (length bytes))
-  where
-    go : (b : Bool) → MatchBool b (ls ≡ No ShortMemory 2048 ∷ []) (Prints bytes new_plan no_card opens.Start 0 ls) → MatchBool b (Unit {0}) ((run : Prints bytes new_plan no_card opens.Start 0 ls) × EveryAnswerHolds (played bytes new_plan no_card opens.Start 0 ls run []))
-    go true long = tt
-    go false run = (run, played_holds bytes new_plan no_card opens.Start 0 ls run [] new_reached)
+-- what is printed for a file that is not too long holds
+pub printed_hold : (bytes : List ℕ) (ls : List Line) → length bytes ≤ 2048 → Prints bytes new_plan no_card opens.Start 0 ls → LinesHold bytes ls
+printed_hold bytes ls short run =
+    subst (λ b. MatchBool b (Unit {0}) ((r : Prints bytes new_plan no_card opens.Start 0 ls) × EveryAnswerHolds (played bytes new_plan no_card opens.Start 0 ls r [])))
+    (sym (le-ltb 2048 (length bytes) short)) (run, played_holds bytes new_plan no_card opens.Start 0 ls run [] new_reached)

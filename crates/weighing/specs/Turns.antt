@@ -1,9 +1,10 @@
 -- One turn of a run: one record read and carried out.
 use Rattle.std.specs.Prelude.{◌≡◌, ℕ, ◌<◌, true, false, cond, ◌⊎◌, List, ◌++◌, Some, None, Ok, Err, Option, Result}
 use Rattle.std.specs.Option.{option_to_list}
+use Rattle.std.specs.declared.ops.ControlFlow.{ControlFlow}
+use Rattle.std.specs.declared.ops.ControlFlow.TheVariants.{Continue, Break}
 use Rattle.refusal.specs.declared.Refusal.{Refusal}
 use Rattle.refusal.specs.declared.Refusal.TheVariants.{CutShort}
-use Rattle.deck.specs.declared.verdict.Verdict.{Verdict}
 use Rattle.plan.specs.Standing.{Standing, stands}
 use Rattle.planfile.specs.declared.turns.Open.{Open}
 use Rattle.records.specs.declared.record.Record.{Record}
@@ -12,17 +13,14 @@ use Rattle.planfile.specs.declared.faults.RecordFault.{RecordFault}
 use Rattle.planfile.specs.declared.faults.FileFault.{FileFault}
 use Rattle.weighing.specs.declared.line.Line.{Line}
 use Rattle.weighing.specs.declared.line.Line.TheVariants.{No}
-use Rattle.weighing.specs.declared.state.Turn.{Turn}
-use Rattle.weighing.specs.declared.state.Turn.TheVariants.{Goes, Ends}
 use Rattle.weighing.specs.declared.state.Run.{Run}
-use Rattle.weighing.specs.Lines.{verdict_line}
 use Rattle.weighing.specs.Pending.{Pending, pending_of}
 use Rattle.weighing.specs.Running.{Answer, Prints, Takes, fault_place, ends, left_open}
 
--- the answer to a judge record
-abbrev pub verdict_answer : Head → Result Verdict Refusal → Answer
-verdict_answer h (Ok v) = Ok (Some (verdict_line v))
-verdict_answer h (Err refusal) = Err (record { kind = h.kind; card = h.card; refusal = refusal })
+-- the answer of a call to a record, what it gave being a line, or the record's fault
+abbrev pub Answered : {T : Type 0} → (T → Line → Type 0) → Head → Result T Refusal → Answer → Type 0
+Answered {T} gives h (Ok x) a = (line : Line) × gives x line × (a ≡ Ok (Some line))
+Answered {T} gives h (Err refusal) a = a ≡ Err (record { kind = h.kind; card = h.card; refusal = refusal })
 
 -- where a run stands: the plan, the card being read, what stands open, and the byte place
 pub record State : Type 0 where
@@ -32,7 +30,11 @@ pub record State : Type 0 where
   pub at : ℕ
 
 abbrev pub state_of : Run → State
-state_of x = record { plan = stands x.plan; card = pending_of x.card; open_now = x.reader.state; at = x.reader.at }
+state_of x = record { plan = stands x.scales.plan; card = pending_of x.card; open_now = x.reader.state; at = x.reader.at }
+
+-- what one turn of a run gives: a line or none, and whether the reading goes on
+abbrev pub Turn : Type 0
+Turn = ControlFlow (Option Line) (Option Line)
 
 -- the lines that are printed from here on
 abbrev pub PrintsOn : List ℕ → State → List Line → Type 0
@@ -41,8 +43,8 @@ PrintsOn bytes x lines = Prints bytes x.plan x.card x.open_now x.at lines
 -- A turn that goes on gives a line or none, and what follows is what the run prints afterwards; its reader has moved on
 -- within the bytes. A turn that ends gives the last line, or none.
 abbrev pub Turned : List ℕ → State → State → Turn → Type 0
-Turned bytes x x' (Goes line) = ((rest : List Line) → PrintsOn bytes x' rest → PrintsOn bytes x (option_to_list line ++ rest)) × (x.at < x'.at)
-Turned bytes x x' (Ends line) = PrintsOn bytes x (option_to_list line)
+Turned bytes x x' (Continue line) = ((rest : List Line) → PrintsOn bytes x' rest → PrintsOn bytes x (option_to_list line ++ rest)) × (x.at < x'.at)
+Turned bytes x x' (Break line) = PrintsOn bytes x (option_to_list line)
 
 -- a record's answer at a byte place: a fault becomes the file's
 abbrev pub filed : ℕ → Answer → Result (Option Line) FileFault
@@ -63,8 +65,8 @@ fault_line f = No f.refusal f.at
 
 -- what a record that was read at a byte place comes to
 abbrev pub Took : State → ℕ → Record → Standing → Turn → Type 0
-Took x at r s' (Goes line) =
+Took x at r s' (Continue line) =
     Takes x.plan x.card x.open_now r s' (Ok line)
     ⊎ ((f : RecordFault) × Takes x.plan x.card x.open_now r s' (Err f) × (ends r f.refusal ≡ false) × (line ≡ Some (No f.refusal (fault_place x.card at r))))
-Took x at r s' (Ends line) =
+Took x at r s' (Break line) =
     (f : RecordFault) × Takes x.plan x.card x.open_now r s' (Err f) × (ends r f.refusal ≡ true) × (line ≡ Some (No f.refusal (fault_place x.card at r)))

@@ -5,4 +5,5 @@ pub mod line;
 pub mod noting;
 pub mod open_card;
 pub mod run;
-pub mod state;
+mod scales;
+mod state;

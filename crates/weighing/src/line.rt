@@ -1,7 +1,11 @@
 // The lines that weigh prints.
-ghost use Rattle.std.specs.Prelude.{Some};
-ghost use Rattle.weighing.specs.Lines.{line_text};
+ghost use Rattle.std.specs.Prelude.{◌≡◌, Some};
+ghost use Rattle.weighing.specs.declared.line.Line.TheVariants as lines;
+ghost use Rattle.weighing.specs.Lines.{line_text, verdict_line};
+ghost use Rattle.weighing.specs.Turns.{fault_line};
 
+use deck::verdict::Verdict;
+use planfile::faults::FileFault;
 use refusal::Refusal;
 use std::fmt;
 
@@ -25,10 +29,40 @@ impl fmt::Display for Line {
             Line::Done => write!(f, "ok"),
             Line::Fits { horizon } => write!(f, "fits {horizon}"),
             Line::Over { at, total } => write!(f, "over {at} {total}"),
-            Line::No { refusal, at } => {
-                let number = refusal.number();
-                write!(f, "no {number} at {at}")
-            }
+            Line::No { refusal, at } => write!(f, "no {} at {at}", refusal.number()),
+        }
+    }
+}
+
+// The line of a change that was made.
+impl From<()> for Line {
+    ghost from_gives = { λ _ line. line ≡ lines.Done };
+
+    fn from(_made: ()) -> Line {
+        Line::Done
+    }
+}
+
+// The line of a verdict.
+impl From<Verdict> for Line {
+    ghost from_gives = { λ verdict line. line ≡ verdict_line verdict };
+
+    fn from(verdict: Verdict) -> Line {
+        match verdict {
+            Verdict::Fits { horizon } => Line::Fits { horizon },
+            Verdict::Over { at, total } => Line::Over { at, total },
+        }
+    }
+}
+
+// The line of a fault.
+impl From<FileFault> for Line {
+    ghost from_gives = { λ fault line. line ≡ fault_line fault };
+
+    fn from(fault: FileFault) -> Line {
+        Line::No {
+            refusal: fault.refusal,
+            at: fault.at,
         }
     }
 }

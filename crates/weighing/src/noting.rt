@@ -1,8 +1,8 @@
 // How the records of an engine card are gathered.
-ghost use Rattle.std.specs.Prelude.{◌≡◌, [], OnOk};
+ghost use Rattle.std.specs.Prelude.{◌≡◌, OnOk};
 ghost use Rattle.weighing.specs.Pending.{pending_of, no_card, noted};
 
-use crate::open_card::OpenCard;
+use crate::open_card::{Found, OpenCard};
 use engine::card::Mode;
 use records::record::Record;
 use std::alloc::{AllocError, Global};
@@ -22,29 +22,25 @@ impl OpenCard {
         }
     }
 
-    // A card's own record: what was gathered before is let go.
-    fn begin(&mut self, at: usize, number: u8, angle: u32, share: u16)
-        ensures { pending_of self.new ≡ record { at = at; number = number; angle = angle; share = share; modes = []; bands = [] } }
+    // Gathers what a record that was read says of the card; other records leave it as it is.
+    pub fn note(&mut self, found: Found) -> Result<(), AllocError>
+        ensures { OnOk result (pending_of self.new ≡ noted (pending_of self.old) found.at found.record) }
     {
-        self.at = at;
-        self.number = number;
-        self.angle = angle;
-        self.share = share;
-        self.modes.clear();
-        self.bands.clear();
-    }
-
-    // Gathers what a record at a byte place says of the card; other records leave it as it is.
-    pub fn note(&mut self, at: usize, record: Record) -> Result<(), AllocError>
-        ensures { OnOk result (pending_of self.new ≡ noted (pending_of self.old) at «record») }
-    {
-        match record {
+        match found.record {
             Record::Card {
                 number,
                 angle,
                 share,
                 ..
-            } => self.begin(at, number, angle, share),
+            } => {
+                self.at = found.at;
+                self.number = number;
+                self.angle = angle;
+                self.share = share;
+                // What was gathered before is let go.
+                self.modes.clear();
+                self.bands.clear();
+            }
             Record::Mode { lower, cost } => self.modes.push(Mode { lower, cost })?,
             Record::Band { lower } => self.bands.push(lower)?,
             _ => {}

@@ -1,73 +1,52 @@
 // The run of a file against a new plan.
-ghost use Rattle.std.specs.Prelude.{◌≡◌, ◌<◌, ◌++◌, length, IfOk, OnOk};
+ghost use Rattle.std.specs.Prelude.{◌≡◌, ◌++◌, IfOk, OnOk};
 ghost use Rattle.std.specs.Option.{option_to_list};
 ghost use Rattle.plan.specs.Standing.{new_plan, stands};
 ghost use Rattle.planfile.specs.declared.turns.Open.TheVariants as opens;
 ghost use Rattle.weighing.specs.Pending.{pending_of, no_card};
-ghost use Rattle.weighing.specs.Running.{fault_place, left_open, ends as ends_reading, Prints, Weighed};
+ghost use Rattle.weighing.specs.Running.{fault_place, ends as ends_reading, Prints, Weighed};
 ghost use Rattle.weighing.specs.Played.{LinesHold};
-ghost use Rattle.weighing.specs.Turns.{state_of, Turned, Took, Carried, last_line, fault_line};
+ghost use Rattle.weighing.specs.Turns.{state_of, Turned, Took, Carried, last_line};
 
-use crate::answers::carry_out;
 use crate::line::Line;
-use crate::open_card::OpenCard;
-use crate::state::{Run, Turn};
-use plan::drafted::Draft;
+use crate::open_card::{Found, OpenCard};
+use crate::scales::Scales;
+use crate::state::Run;
 use planfile::faults::{FileFault, within};
 use planfile::reader::Reader;
 use planfile::turns::Open;
-use records::record::{Kind, Record};
+use records::record::Record;
 use refusal::Refusal;
 use std::alloc::{AllocError, Global};
+use std::ops::ControlFlow::{self, Break, Continue};
 
 // The greatest input, in bytes.
 const MOST_BYTES: usize = 2048;
-// What a judging to the horizon 600 asks of lent memory.
-const WORK_CELLS: usize = 14424;
 
-const TOTALS: usize = 601;
-
-// Whether a card stands open.
-fn is_open(state: Open) -> bool
-    ensures { result ≡ left_open state }
-{
-    match state {
-        Open::Start => false,
-        Open::Between => false,
-        Open::Modes { .. } => true,
-        Open::Bands { .. } => true,
-    }
-}
-
-// Whether a record that is refused so ends the reading.
-fn ends(record: Record, refusal: Refusal) -> bool
-    ensures { result ≡ ends_reading «record» refusal }
-{
-    let number = refusal.number();
-    match record.head().kind {
-        Kind::Card => true,
-        _ => number == 1 || number >= 11,
-    }
-}
-
-// The line of a fault.
-fn line_of(fault: FileFault) -> Line
-    ensures { result ≡ fault_line fault }
-{
-    Line::No {
-        refusal: fault.refusal,
-        at: fault.at,
+impl Found {
+    // Whether the reading ends where this record is refused so.
+    fn ends(self, refusal: Refusal) -> bool
+        ensures { result ≡ ends_reading self.record refusal }
+    {
+        matches!(self.record, Record::Card { .. })
+            || matches!(
+                refusal,
+                Refusal::EngineLimits
+                    | Refusal::UnknownKind
+                    | Refusal::CutShort
+                    | Refusal::OutOfTurn
+            )
     }
 }
 
 impl OpenCard {
     // The byte place of a fault of a record: a card's last band is refused at the card's record.
-    fn fault_place(&self, at: usize, record: Record) -> usize
-        ensures { result ≡ fault_place (pending_of self.now) at «record» }
+    fn fault_place(&self, found: Found) -> usize
+        ensures { result ≡ fault_place (pending_of self.now) found.at found.record }
     {
-        match record {
+        match found.record {
             Record::Band { .. } => self.at,
-            _ => at,
+            _ => found.at,
         }
     }
 }
@@ -77,78 +56,67 @@ impl<'a> Run<'a> {
     fn last_line(&self) -> Option<Line>
         ensures { result ≡ last_line self.now.reader.state (pending_of self.now.card) }
     {
-        if is_open(self.reader.state()) {
-            Some(Line::No {
+        match self.reader.state() {
+            Open::Start | Open::Between => None,
+            Open::Modes { .. } | Open::Bands { .. } => Some(Line::No {
                 refusal: Refusal::CutShort,
                 at: self.card.at,
-            })
-        } else {
-            None
+            }),
         }
     }
 
     // Carries out the record that was read at a byte place; its fault becomes the file's.
-    fn carry(
-        &mut self,
-        at: usize,
-        record: Record,
-        work: &mut [u32],
-        totals: &mut [u64],
-    ) -> Result<Option<Line>, FileFault>
-        requires { (length work.old ≡ 14424) × (length totals.old ≡ 601) }
-        ensures carried { Carried (state_of self.old) at «record» (stands self.new.plan) result }
+    fn carry(&mut self, found: Found) -> Result<Option<Line>, FileFault>
+        ensures carried { Carried (state_of self.old) found.at found.record (stands self.new.scales.plan) result }
         ensures card { pending_of self.new.card ≡ pending_of self.old.card }
         ensures reader { self.new.reader ≡ self.old.reader }
     {
-        let place = self.card.fault_place(at, record);
+        let place = self.card.fault_place(found);
         let state = self.reader.state();
-        let answer = carry_out(&mut self.plan, &self.card, state, record, work, totals);
+        let answer = self.scales.carry_out(&self.card, state, found.record);
         Ok(within(place, answer)?)
     }
 
     // A record that was read: the reading goes on after it, unless it is refused in a way that
     // ends it.
-    fn taken(&mut self, at: usize, record: Record, work: &mut [u32], totals: &mut [u64]) -> Turn
-        requires { (length work.old ≡ 14424) × (length totals.old ≡ 601) }
-        ensures turn { Took (state_of self.old) at «record» (stands self.new.plan) result }
+    fn taken(&mut self, found: Found) -> ControlFlow<Option<Line>, Option<Line>>
+        ensures turn { Took (state_of self.old) found.at found.record (stands self.new.scales.plan) result }
         ensures card { pending_of self.new.card ≡ pending_of self.old.card }
         ensures reader { self.new.reader ≡ self.old.reader }
     {
-        match self.carry(at, record, work, totals) {
-            Ok(line) => Turn::Goes(line),
+        match self.carry(found) {
+            Ok(line) => Continue(line),
             Err(fault) => {
-                let line = Some(line_of(fault));
-                if ends(record, fault.refusal) {
-                    Turn::Ends(line)
+                let line = Some(Line::from(fault));
+                if found.ends(fault.refusal) {
+                    Break(line)
                 } else {
-                    Turn::Goes(line)
+                    Continue(line)
                 }
             }
         }
     }
 
     // One turn: reads a record and carries it out.
-    fn turn(&mut self, work: &mut [u32], totals: &mut [u64]) -> Result<Turn, AllocError>
-        requires { (length work.old ≡ 14424) × (length totals.old ≡ 601) }
+    fn turn(&mut self) -> Result<ControlFlow<Option<Line>, Option<Line>>, AllocError>
         ensures turned { IfOk result (λ t. Turned self.old.reader.bytes.now (state_of self.old) (state_of self.new) t) }
         ensures bytes { self.new.reader.bytes.now ≡ self.old.reader.bytes.now }
     {
         let at = self.reader.at();
         match self.reader.next() {
-            Ok(handed) => match handed {
-                Some(record) => {
-                    self.card.note(at, record)?;
-                    Ok(self.taken(at, record, work, totals))
-                }
-                None => Ok(Turn::Ends(self.last_line())),
-            },
-            Err(fault) => Ok(Turn::Ends(Some(line_of(fault)))),
+            Ok(Some(record)) => {
+                let found = Found { at, record };
+                self.card.note(found)?;
+                Ok(self.taken(found))
+            }
+            Ok(None) => Ok(Break(self.last_line())),
+            Err(fault) => Ok(Break(Some(Line::from(fault)))),
         }
     }
 }
 
 // Adds a turn's line, where it has one.
-fn print(lines: &mut Vec<Line>, line: Option<Line>) -> Result<(), AllocError>
+fn append(lines: &mut Vec<Line>, line: Option<Line>) -> Result<(), AllocError>
     ensures { OnOk result (lines.new.items ≡ lines.old.items ++ option_to_list line) }
 {
     if let Some(line) = line {
@@ -162,18 +130,16 @@ fn run_file(heap: Global, bytes: &[u8]) -> Result<Vec<Line>, AllocError>
     ensures { IfOk result (λ v. Prints bytes.now new_plan no_card opens.Start 0 v.items) }
 {
     let mut lines = Vec::new(heap);
-    let mut work = [0u32; WORK_CELLS];
-    let mut totals = [0u64; TOTALS];
     let mut run = Run {
         reader: Reader::new(bytes),
-        plan: Draft::new(),
+        scales: Scales::new(),
         card: OpenCard::new(heap),
     };
     loop {
-        match run.turn(&mut work, &mut totals)? {
-            Turn::Goes(line) => print(&mut lines, line)?,
-            Turn::Ends(line) => {
-                print(&mut lines, line)?;
+        match run.turn()? {
+            Continue(line) => append(&mut lines, line)?,
+            Break(line) => {
+                append(&mut lines, line)?;
                 return Ok(lines);
             }
         }
@@ -186,12 +152,11 @@ pub fn weigh(heap: Global, bytes: &[u8]) -> Result<Vec<Line>, AllocError>
     ensures history { IfOk result (λ v. LinesHold bytes.now v.items) }
 {
     if bytes.len() > MOST_BYTES {
-        let mut lines = Vec::new(heap);
-        lines.push(Line::No {
+        let refused = Line::No {
             refusal: Refusal::ShortMemory,
             at: MOST_BYTES,
-        })?;
-        return Ok(lines);
+        };
+        return Ok(vec![in heap; refused]?);
     }
     run_file(heap, bytes)
 }

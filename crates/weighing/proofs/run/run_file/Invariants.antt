@@ -12,8 +12,6 @@ abbrev pub invariant-loop-run : goal.invariant-loop-run
 invariant-loop-run l =
     ((rest : List Line) → PrintsOn l.bytes (state_of l.run) rest → Prints l.bytes new_plan no_card opens.Start 0 (vec_items l.lines ++ rest))
     × (l.run.reader.bytes.now ≡ l.bytes)
-    × (length l.work ≡ 14424)
-    × (length l.totals ≡ 601)
 
 abbrev pub decreases-loop-run : goal.decreases-loop-run
 decreases-loop-run l = length l.bytes - l.run.reader.at
