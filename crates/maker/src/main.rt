@@ -3,12 +3,13 @@
 // answered.
 use deck::verdict::Verdict;
 use demand::{Told, ToldJob};
-use engine::card::Mode;
+use engine::card::{CardParts, Mode};
+use engine::numbers::Numbers;
 use plan::drafted::Draft;
 use plan::sealed::Sealed;
 use refusal::Refusal;
 use std::fmt::{self, Display};
-use task::kinds::{Empty, Timed};
+use task::kinds::{Empty, Timed, TimedParts};
 
 // Memory to lend, enough for windows of up to 200 ticks.
 const CELLS: usize = 4824;
@@ -100,16 +101,32 @@ fn make(rt: &HostRuntime, plan: &mut Draft) -> anyhow::Result<()> {
             cost: 3,
         },
     ];
-    let bands = [5000, 20_000];
-    print_change(rt, "engine", plan.set_engine(5000, 65_000, 10, 10, 1))?;
-    print_change(
-        rt,
-        "add engine card 7",
-        plan.add_engine_card(7, 600_000, 900, &modes, &bands),
-    )?;
-    print_change(rt, "add timed card 9", plan.add_timed_card(9, 40, 30, 10))?;
-    print_change(rt, "add timed card 7", plan.add_timed_card(7, 40, 30, 10))?;
-    print_change(rt, "engine", plan.set_engine(5000, 65_000, 10, 10, 0))?;
+    let numbers = Numbers {
+        least: 5000,
+        greatest: 65_000,
+        rise: 10,
+        fall: 10,
+        entry: 1,
+    };
+    let parts = CardParts {
+        angle: 600_000,
+        modes: &modes,
+        bands: &[5000, 20_000],
+    };
+    let timed = TimedParts {
+        period: 40,
+        deadline: 30,
+        cost: 10,
+    };
+    print_change(rt, "engine", plan.set_engine(numbers))?;
+    print_change(rt, "add engine card 7", plan.add_engine_card(7, 900, parts))?;
+    print_change(rt, "add timed card 9", plan.add_timed_card(9, timed))?;
+    print_change(rt, "add timed card 7", plan.add_timed_card(7, timed))?;
+    let free = Numbers {
+        entry: 0,
+        ..numbers
+    };
+    print_change(rt, "engine", plan.set_engine(free))?;
     print_change(rt, "recost 9", plan.recost(9, 0, 12))?;
     print_change(rt, "cut 7 at 50000", plan.cut(7, 50_000))?;
     print_change(rt, "cut 7 at rung 100", plan.rung_cut(7, 100))?;
@@ -154,7 +171,11 @@ fn main(rt: HostRuntime) -> anyhow::Result<()> {
     let mut jobs = [NO_JOB; JOBS];
     let mut plan = Draft::new();
     make(&rt, &mut plan)?;
-    let Ok(guest) = Timed::new(50, 25, 5) else {
+    let Ok(guest) = Timed::new(TimedParts {
+        period: 50,
+        deadline: 25,
+        cost: 5,
+    }) else {
         return Ok(());
     };
     let verdict = plan.judge(&guest, 200, &mut work, &mut totals);

@@ -22,12 +22,16 @@ impl Open {
     pub(crate) fn in_turn(self, kind: Kind) -> bool
         ensures { result ≡ in_turn self kind }
     {
-        match self {
-            Open::Start => kind == Kind::Engine,
-            Open::Between => !matches!(kind, Kind::Engine | Kind::Mode | Kind::Band),
-            Open::Modes { .. } => kind == Kind::Mode,
-            Open::Bands { .. } => kind == Kind::Band,
-        }
+        matches!(
+            (self, kind),
+            (Open::Start, Kind::Engine)
+                | (
+                    Open::Between,
+                    Kind::Card | Kind::Timed | Kind::Recost | Kind::Cut | Kind::Drop | Kind::Judge
+                )
+                | (Open::Modes { .. }, Kind::Mode)
+                | (Open::Bands { .. }, Kind::Band)
+        )
     }
 
     // What stands open after a record that came in turn.

@@ -11,12 +11,14 @@ ghost use Rattle.weighing.specs.Turns.{Answered};
 use crate::line::Line;
 use crate::open_card::OpenCard;
 use crate::scales::Scales;
+use engine::card::CardParts;
+use engine::numbers::Numbers;
 use planfile::faults::{RecordFault, within};
 use planfile::turns::Open;
 use records::head::Head;
 use records::record::{Kind, Record};
 use refusal::Refusal;
-use task::kinds::Empty;
+use task::kinds::{Empty, TimedParts};
 
 // A call that was made for a record: what it gave is the line.
 fn answered<T: Into<Line>>(
@@ -51,12 +53,14 @@ impl Scales {
             kind: Kind::Card,
             card: card.number,
         };
-        let modes = card.modes.as_slice();
-        let bands = card.bands.as_slice();
+        let parts = CardParts {
+            angle: card.angle,
+            modes: card.modes.as_slice(),
+            bands: card.bands.as_slice(),
+        };
         answered(
             head,
-            self.plan
-                .add_engine_card(card.number, card.angle, card.share, modes, bands),
+            self.plan.add_engine_card(card.number, card.share, parts),
         )
     }
 
@@ -92,7 +96,13 @@ impl Scales {
                 entry,
             } => answered(
                 head,
-                self.plan.set_engine(least, greatest, rise, fall, entry),
+                self.plan.set_engine(Numbers {
+                    least,
+                    greatest,
+                    rise,
+                    fall,
+                    entry,
+                }),
             ),
             Record::Card { modes, bands, .. } => {
                 within(head, counts_right(modes, bands))?;
@@ -107,7 +117,14 @@ impl Scales {
                 cost,
             } => answered(
                 head,
-                self.plan.add_timed_card(number, period, deadline, cost),
+                self.plan.add_timed_card(
+                    number,
+                    TimedParts {
+                        period,
+                        deadline,
+                        cost,
+                    },
+                ),
             ),
             Record::Recost {
                 number,
