@@ -1,5 +1,5 @@
 // Tables of fixed length whose first cells are in use.
-ghost use Rattle.std.specs.Prelude.{◌≡◌, ◌≤◌, length};
+ghost use Rattle.std.specs.Prelude.{◌≡◌, ◌≤◌, length, ⊤};
 
 use crate::Keyed;
 use std::alloc::AllocError;
@@ -15,6 +15,10 @@ pub struct Few<T, const N: usize> {
 
 // By hand, since no derive takes a struct with a ghost field and a type parameter.
 impl<T: Copy, const N: usize> Clone for Few<T, N> {
+    ghost is_clone = { λ x y. y ≡ x };
+
+    ghost is_infallible = { λ _. ⊤ };
+
     fn clone(&self) -> Result<Few<T, N>, AllocError> {
         Ok(*self)
     }
