@@ -1,5 +1,5 @@
 -- How the greatest demand of a cell comes from the cells before it.
-use Rattle.std.proofs.Common.{◌≡◌, ℕ, ◌+◌, ◌-◌, ◌*◌, ◌<◌, ◌≤◌, max, ◌⊎◌, List, [], ◌∷◌, length, get_or, Some, None, Option, sym, refl, ap, ◌∙◌, subst, inl, inr, ⊎_elim, arith}
+use Rattle.std.proofs.Common.{◌≡◌, ℕ, ◌+◌, ◌-◌, ◌*◌, ◌<◌, ◌≤◌, max, List, [], ◌∷◌, length, get_or, Some, None, sym, refl, ap, ◌∙◌, subst, inl, inr, ⊎_elim, arith}
 use Rattle.std.specs.List.{Contains}
 use Rattle.std.proofs.lemmas.Bool.{cases_lt}
 use Rattle.std.proofs.lemmas.List.{get_or_default}
@@ -59,17 +59,7 @@ best_late g l t p h = record { reached = inl refl; bounds = best_late_bounds g l
 -- a cell whose deadline is met: the place alone, or the place and the best that it can go on with
 best_bounds : (g : Graph) (t p n : ℕ) → Rest g t p g.places n → (ps : List ℕ) → Inside g t p ps → demand_of g p ps ≤ g.cost p + n
 best_bounds g t p n r [] i = omega arith
-best_bounds g t p n r (q ∷ ps) i =
-    let w = i.0 in
-    let e : ticks (g.gap p q) ≡ w.1.0 = ap ticks w.1.1 in
-    let place = walk_place g q ps w.2 in
-    let on : Onward g t p q ps = record {
-      ticks = w.1.0;
-      gap = w.1.1;
-      early = omega (arith, i.1);
-      inside = (w.2, omega (arith, i.1));
-    } in
-    omega (arith, r.bounds q ps place.1 on)
+best_bounds g t p n r (q ∷ ps) i = grind (arith, walk_place)
 
 pub best_of_rest : (g : Graph) (t p n x : ℕ) → Place g p → g.deadline p ≤ t → Rest g t p g.places n → x ≡ g.cost p + n → Best g t p x
 best_of_rest g t p n x place met r same = record {
@@ -85,11 +75,7 @@ best_of_rest g t p n x place met r same = record {
 
 -- what a walk that goes on demands fits its cell
 pub rest_most : (g : Graph) → Lawful g → (t p k n : ℕ) → Rest g t p k n → n ≤ 100000 * t
-rest_most g l t p k n r =
-    ⊎_elim
-    (λ z. omega arith)
-    (λ s. let o = s.2 in omega (arith, demand_most g l s.0 s.1 o.inside.0, o.inside.1, s.3))
-    r.reached
+rest_most g l t p k n r = grind (arith, demand_most)
 
 -- what bounds every cell of a row, and stands in it where it is not 0
 pub most_row : (g : Graph) (t n : ℕ) (cells : List ℕ) → length cells ≡ g.places
@@ -115,13 +101,4 @@ most_row g t n cells count best most found = record {
 }
 
 pub most_all : (g : Graph) → Lawful g → (t n : ℕ) → Most g t g.places n → Greatest g t n
-most_all g l t n r =
-    let all : (p : ℕ) (ps : List ℕ) → Inside g t p ps → demand_of g p ps ≤ n =
-    λ p ps i. r.bounds p ps (walk_place g p ps i.0).1 i in
-    record {
-      reached = ⊎_elim
-          (λ z. inr (z, λ p ps i. omega (arith, all p ps i, demand_least g l p ps i.0)))
-          (λ s. inl (s.0, (s.1, s.2, s.3)))
-          r.reached;
-      bounds = all;
-    }
+most_all g l t n r = grind (arith, walk_place, demand_least)

@@ -1,5 +1,5 @@
 -- How the rows of the worktable fill up.
-use Rattle.std.proofs.Common.{◌≡◌, ℕ, ◌+◌, ◌-◌, ◌*◌, ◌<◌, ◌≤◌, List, ◌++◌, length, get_or, set, subst, ⊎_elim, arith}
+use Rattle.std.proofs.Common.{◌≡◌, ℕ, ◌+◌, ◌*◌, ◌<◌, ◌≤◌, List, ◌++◌, length, get_or, set, subst, ⊎_elim, arith}
 use Rattle.std.proofs.lemmas.Bool.{cases_lt}
 use Rattle.std.proofs.lemmas.Grind.{common_steps}
 use Rattle.task.specs.Graph.{Graph}
@@ -21,10 +21,6 @@ rows_more g before row row' t few long r here = record {
       (cases_lt s t);
   here = λ v b. absurd (omega arith);
 }
-
--- the cells past row t stay
-pub spared_more : (before row row' : List ℕ) (n i : ℕ) → length before ≡ n → Spared 24 row row' → n + 24 ≤ i → get_or (before ++ row') i 0 ≡ get_or (before ++ row) i 0
-spared_more before row row' n i long same h = grind (arith, common_steps)
 
 -- what holds of every cell before i, and of what is written at i, holds of every cell before i + 1
 pub below_set : {X : Type 0} (P : ℕ → X → Type 0) (xs : List X) (i : ℕ) (x d : X) → i < length xs

@@ -1,7 +1,7 @@
 -- How a greatest walk is followed through the worktable, and its jobs are written.
-use Rattle.std.proofs.Common.{◌≡◌, ℕ, ◌+◌, ◌-◌, ◌*◌, ◌<◌, ◌≤◌, Bool, true, not, ◌&&◌, eqb, ltb, List, [], ◌∷◌, ◌++◌, length, get_or, take, drop, set, Some, None, Option, MatchOption, sym, refl, ap, ◌∙◌, subst, inl, ⊎_elim, arith}
+use Rattle.std.proofs.Common.{◌≡◌, ℕ, ◌+◌, ◌-◌, ◌<◌, ◌≤◌, Bool, true, not, ◌&&◌, eqb, ltb, List, [], ◌∷◌, ◌++◌, length, get_or, take, drop, set, Some, None, Option, MatchOption, sym, ap, ◌∙◌, subst, ⊎_elim, arith}
 use Rattle.std.specs.List.{position, position_or_len}
-use Rattle.std.proofs.lemmas.List.{append_assoc, take_more_set, drop-set-lt, drop-drop}
+use Rattle.std.proofs.lemmas.List.{append_assoc, take_more_set}
 use Rattle.std.proofs.lemmas.List.Quantifiers.{position-Some}
 use Rattle.std.proofs.lemmas.List.Sums.{prefix_len_passes}
 use Rattle.std.proofs.lemmas.Bool.{cases_lt, not-true, both_ways}
@@ -34,8 +34,10 @@ cost_least g p [] = grind arith
 cost_least g p (q ∷ ps) = grind arith
 
 -- and the cell holds at least its cost
-pub cell_cost : (g : Graph) (t p n : ℕ) → Best g t p n → 1 ≤ n → g.cost p ≤ n
-cell_cost g t p n b h = let s = cell_walk g t p n b h in omega (arith, cost_least g p s.0, s.2)
+pub cell_cost : (g : Graph) (work : List ℕ) (n s v : ℕ) → Rows g work n 0 → s < n → v < g.places → 1 ≤ cell_at work s v → g.cost (v + 1) ≤ cell_at work s v
+cell_cost g work n s v r row place more =
+    let walk = cell_walk g s (v + 1) (cell_at work s v) (r.above s v row place) more in
+    omega (arith, cost_least g (v + 1) walk.0, walk.2)
 
 -- a greatest demand above 0 stands in some cell of its row
 pub greatest_cell : (g : Graph) (t n : ℕ) → Greatest g t n → 1 ≤ n → (cell : ℕ → ℕ) → ((v : ℕ) → v < g.places → Best g t (v + 1) (cell v))
@@ -87,9 +89,7 @@ place_found g t n most work best cells count same (Some v) e =
 
 -- a walk that starts a gap earlier
 extend : (g : Graph) (s p q d : ℕ) (ps : List ℕ) → Place g p → g.gap p q ≡ Some d → d ≤ s → Inside g (s - d) q ps → Inside g s p (q ∷ ps)
-extend g s p q d ps place gap early i =
-    let e : ticks (g.gap p q) ≡ d = ap ticks gap in
-    ((place, (d, gap), i.0), omega (arith, i.1))
+extend g s p q d ps place gap early i = grind arith
 
 -- no place up to k goes on with this rest
 abbrev pub NoneBefore : Graph → List ℕ → ℕ → ℕ → ℕ → ℕ → Type 0
@@ -189,12 +189,4 @@ cell_left g l work n s v r row h more = (
 
 -- a greatest demand of 0 is that of no walk
 pub tells_none : (g : Graph) → Lawful g → (t d : ℕ) (jobs : List ToldJob) → Greatest g t d → d ≡ 0 → Tells g t jobs jobs 0 d
-tells_none g l t d jobs most e = record {
-  greatest = most;
-  told = inl (record {
-    none = λ p ps i. omega (arith, most.bounds p ps i, demand_least g l p ps i.0);
-    count = refl;
-    demand = e;
-    same = refl;
-  });
-}
+tells_none g l t d jobs most e = grind (arith, demand_least)
