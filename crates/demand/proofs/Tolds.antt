@@ -1,10 +1,12 @@
 -- How a greatest walk is followed through the worktable, and its jobs are written.
-use Rattle.std.proofs.Common.{◌≡◌, ℕ, ◌+◌, ◌-◌, ◌*◌, ◌<◌, ◌≤◌, Bool, true, not, ◌&&◌, eqb, ltb, List, [], ◌∷◌, ◌++◌, length, get_or, take, drop, set, Some, None, Option, MatchOption, sym, refl, ap, ◌∙◌, subst, inl, ⊎_elim, arith}
+use Rattle.std.proofs.Common.{◌≡◌, ℕ, ◌+◌, ◌-◌, ◌<◌, ◌≤◌, Bool, true, not, ◌&&◌, eqb, ltb, List, [], ◌∷◌, ◌++◌, length, get_or, take, drop, set, Some, None, Option, MatchOption, sym, ap, ◌∙◌, subst, ⊎_elim, arith}
 use Rattle.std.specs.List.{position, position_or_len}
-use Rattle.std.proofs.lemmas.List.{append_assoc, take_more_set, drop-set-lt, drop-drop}
+use Rattle.std.proofs.lemmas.List.{append_assoc, take_more_set}
 use Rattle.std.proofs.lemmas.List.Quantifiers.{position-Some}
 use Rattle.std.proofs.lemmas.List.Sums.{prefix_len_passes}
-use Rattle.std.proofs.lemmas.Bool.{cases_lt, and_from, and_parts, lt-ltb, ltb-true, eq-eqb, eqb-true, not-true, both_ways, cond-true}
+use Rattle.std.proofs.lemmas.Bool.{cases_lt, not-true, both_ways}
+use Rattle.std.proofs.lemmas.Bool.Decides.{nat_tests}
+use Rattle.std.proofs.lemmas.Grind.{common_steps}
 use Rattle.task.specs.Graph.{Graph, Place, Lawful}
 use Rattle.task.specs.Walks.{Inside, ticks, demand_of, Greatest}
 use Rattle.demand.specs.declared.local.Stop.{Stop}
@@ -12,7 +14,7 @@ use Rattle.demand.specs.declared.walk.ToldJob.{ToldJob}
 use Rattle.demand.specs.Stops.{StopOf}
 use Rattle.demand.specs.Table.{Best, Rows, cell_at, Firsts, Nexts}
 use Rattle.demand.specs.Told.{told_at, told_from, WalkTold, Tells}
-use Rattle.demand.proofs.Bests.{walk_place, best_late, demand_least, no_gap}
+use Rattle.demand.proofs.Bests.{walk_place, best_late, demand_least}
 
 -- a cell above 0 holds the demand of a walk
 pub cell_walk : (g : Graph) (t p n : ℕ) → Best g t p n → 1 ≤ n → (ps : List ℕ) × Inside g t p ps × (demand_of g p ps ≡ n)
@@ -28,12 +30,14 @@ cell_met g l t p n b h =
     (cases_lt t (g.deadline p))
 
 cost_least : (g : Graph) (p : ℕ) (ps : List ℕ) → g.cost p ≤ demand_of g p ps
-cost_least g p [] = omega arith
-cost_least g p (q ∷ ps) = omega arith
+cost_least g p [] = grind arith
+cost_least g p (q ∷ ps) = grind arith
 
 -- and the cell holds at least its cost
-pub cell_cost : (g : Graph) (t p n : ℕ) → Best g t p n → 1 ≤ n → g.cost p ≤ n
-cell_cost g t p n b h = let s = cell_walk g t p n b h in omega (arith, cost_least g p s.0, s.2)
+pub cell_cost : (g : Graph) (work : List ℕ) (n s v : ℕ) → Rows g work n 0 → s < n → v < g.places → 1 ≤ cell_at work s v → g.cost (v + 1) ≤ cell_at work s v
+cell_cost g work n s v r row place more =
+    let walk = cell_walk g s (v + 1) (cell_at work s v) (r.above s v row place) more in
+    omega (arith, cost_least g (v + 1) walk.0, walk.2)
 
 -- a greatest demand above 0 stands in some cell of its row
 pub greatest_cell : (g : Graph) (t n : ℕ) → Greatest g t n → 1 ≤ n → (cell : ℕ → ℕ) → ((v : ℕ) → v < g.places → Best g t (v + 1) (cell v))
@@ -57,7 +61,10 @@ abbrev holds : ℕ → ℕ → Bool
 holds n x = ltb 0 x && eqb x n
 
 holds_true : (n x : ℕ) → 1 ≤ n → x ≡ n → holds n x ≡ true
-holds_true n x more e = and_from (ltb 0 x) (eqb x n) (lt-ltb 0 x (omega arith)) (eq-eqb x n e)
+holds_true n x more e = grind (arith, nat_tests)
+
+holds_is : (n x : ℕ) → holds n x ≡ true → (1 ≤ n) × (x ≡ n)
+holds_is n x e = grind (arith, nat_tests)
 
 -- the first cell that holds a greatest demand above 0
 pub place_found : (g : Graph) (t n : ℕ) → Greatest g t n → (work : List ℕ) → ((v : ℕ) → v < g.places → Best g t (v + 1) (cell_at work t v))
@@ -71,24 +78,18 @@ place_found g t n most work best cells count same None e =
     let first = position_or_len (holds n) cells in
     ⊎_elim
     (λ before. absurd (both_ways (holds n (get_or cells at.0 0)) (not-true (holds n (get_or cells at.0 0)) (prefix_len_passes (λ x. not (holds n x)) cells at.0 0 before)) here))
-    (λ low. absurd (no_gap (position (holds n) cells) first
-    (cond-true (ltb first (length cells)) (Some first) None (lt-ltb first (length cells) (omega arith)))
-    (sym e)))
+    (λ low. absurd (grind (arith, nat_tests, e)))
     (cases_lt at.0 first))
     (λ none. omega arith)
     (cases_lt 0 n)
 place_found g t n most work best cells count same (Some v) e =
     let at = position-Some (holds n) cells v 0 (sym e) in
-    let both = and_parts (ltb 0 (get_or cells v 0)) (eqb (get_or cells v 0) n) at.1 in
-    let more = ltb-true 0 (get_or cells v 0) both.0 in
-    let is = eqb-true (get_or cells v 0) n both.1 in
-    (omega arith, record { greatest = most; here = λ _. (omega arith, sym (same v (omega arith)) ∙ is) })
+    let is = holds_is n (get_or cells v 0) at.1 in
+    (is.0, record { greatest = most; here = λ _. (omega arith, sym (same v (omega arith)) ∙ is.1) })
 
 -- a walk that starts a gap earlier
 extend : (g : Graph) (s p q d : ℕ) (ps : List ℕ) → Place g p → g.gap p q ≡ Some d → d ≤ s → Inside g (s - d) q ps → Inside g s p (q ∷ ps)
-extend g s p q d ps place gap early i =
-    let e : ticks (g.gap p q) ≡ d = ap ticks gap in
-    ((place, (d, gap), i.0), omega (arith, i.1))
+extend g s p q d ps place gap early i = grind arith
 
 -- no place up to k goes on with this rest
 abbrev pub NoneBefore : Graph → List ℕ → ℕ → ℕ → ℕ → ℕ → Type 0
@@ -154,11 +155,7 @@ walked_more g work window first s v i u d jobs h most room w n = record {
 
 -- one more job is written, and those after it are as they were
 pub others_more : (jobs jobs₀ : List ToldJob) (i : ℕ) (job : ToldJob) → drop i jobs ≡ drop i jobs₀ → drop (i + 1) (set jobs i job) ≡ drop (i + 1) jobs₀
-others_more jobs jobs₀ i job same =
-    drop-set-lt (i + 1) jobs i job (omega arith)
-    ∙ sym (drop-drop 1 i jobs)
-    ∙ ap (drop 1) same
-    ∙ drop-drop 1 i jobs₀
+others_more jobs jobs₀ i job same = grind (arith, common_steps)
 
 -- the job at v is written, and it is the last
 pub walked_all : (g : Graph) (work : List ℕ) (window first s v i : ℕ) (jobs jobs₀ : List ToldJob) → v < g.places → g.deadline (v + 1) ≤ s → i < length jobs
@@ -180,7 +177,7 @@ walked_all g work window first s v i jobs jobs₀ h met room w e same =
 -- the job that is written is the one to tell
 pub told_is : (g : Graph) (n r v : ℕ) (stop : Stop) → StopOf g n (v + 1) stop
     → ◌≡◌ {A = ToldJob} (record { place = v + 1; release = r; cost = stop.cost; due = r + stop.deadline }) (told_at g r (v + 1))
-told_is g n r v stop s = λ i. record { place = v + 1; release = r; cost = s.cost i; due = r + s.deadline i }
+told_is g n r v stop s = grind arith
 
 -- a cell above 0 leaves time for its deadline
 pub cell_left : (g : Graph) → Lawful g → (work : List ℕ) (n s v : ℕ) → Rows g work n 0 → s < n → v < g.places → 1 ≤ cell_at work s v
@@ -192,12 +189,4 @@ cell_left g l work n s v r row h more = (
 
 -- a greatest demand of 0 is that of no walk
 pub tells_none : (g : Graph) → Lawful g → (t d : ℕ) (jobs : List ToldJob) → Greatest g t d → d ≡ 0 → Tells g t jobs jobs 0 d
-tells_none g l t d jobs most e = record {
-  greatest = most;
-  told = inl (record {
-    none = λ p ps i. omega (arith, most.bounds p ps i, demand_least g l p ps i.0);
-    count = refl;
-    demand = e;
-    same = refl;
-  });
-}
+tells_none g l t d jobs most e = grind (arith, demand_least)

@@ -47,7 +47,9 @@ impl Filled<'_> {
         let stop = self.local.stop(v);
         let mut rest: u32 = 0;
         for (u, gap) in stop.gaps[..self.local.places].iter().enumerate() {
-            if let Some(gap) = *gap && gap <= t {
+            if let Some(gap) = *gap
+                && gap <= t
+            {
                 rest = rest.max(self.row(t - gap)[u]);
             }
         }
@@ -110,7 +112,10 @@ impl Filled<'_> {
             return None;
         }
         for (u, gap) in stop.gaps[..self.local.places].iter().enumerate() {
-            if let Some(gap) = *gap && gap <= left && self.row(left - gap)[u] == rest {
+            if let Some(gap) = *gap
+                && gap <= left
+                && self.row(left - gap)[u] == rest
+            {
                 return Some((u, gap));
             }
         }

@@ -6,8 +6,8 @@ ghost use Rattle.demand.specs.Table.{Spared, cell_at};
 ghost use Rattle.demand.specs.Full.{Full};
 ghost use Rattle.demand.specs.Told.{walk_refusal, Tells, WalkTold};
 
-use crate::filled::Filled;
 use crate::check_memory;
+use crate::filled::Filled;
 use crate::local::Local;
 use refusal::Refusal;
 use task::interface::Task;

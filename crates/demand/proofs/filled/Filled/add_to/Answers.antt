@@ -1,5 +1,6 @@
-use Rattle.std.proofs.Common.{◌≡◌, ℕ, ◌+◌, ◌-◌, ◌^◌, min, length, get_or, take, drop, ap, ◌∙◌, arith}
-use Rattle.std.proofs.lemmas.List.{length-take, get_or-set_other, get_or_append_left}
+use Rattle.std.proofs.Common.{◌≡◌, ℕ, ◌+◌, ◌-◌, ◌^◌, min, get_or, ap, ◌∙◌, arith}
+use Rattle.std.proofs.lemmas.List.{get_or-set_other}
+use Rattle.std.proofs.lemmas.Grind.{common_steps}
 use Rattle.task.specs.Walks.{Greatest}
 use Rattle.demand.specs.Copied.{graph_of}
 use Rattle.demand.proofs.Tables.{below_set}
@@ -29,12 +30,4 @@ loop-t-preserved c =
 
 pub returns-clause-grown : goal.returns-clause-grown
 returns-clause-grown c =
-    let rows = c.args.self.now.rows in
-    let before = c.args.totals.now in
-    let totals = c.loop-t.total-items in
-    let long : length (take rows before) ≡ rows = omega (arith, length-take {A = ℕ}) in
-    record {
-      at = λ t h.
-          let a = c.loop-t.invariant.0.at t (omega arith) in
-          (a.0, a.1, get_or_append_left totals (drop rows before) 0 t (omega arith) ∙ a.2);
-    }
+    record { at = λ t h. let a = c.loop-t.invariant.0.at t (grind (arith, common_steps)) in (a.0, a.1, grind (arith, common_steps)) }

@@ -1,6 +1,4 @@
-use Rattle.std.proofs.Common.{◌≡◌}
 use Rattle.demand.specs.Copied.{graph_of}
-use Rattle.demand.specs.Table.{cell_at}
 use Rattle.demand.proofs.Tolds.{place_found}
 use Rattle.demand.proofs.filled.Filled.first_place.Goals as goal
 

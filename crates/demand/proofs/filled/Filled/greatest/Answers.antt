@@ -1,4 +1,4 @@
-use Rattle.std.proofs.Common.{◌≡◌, ℕ, ◌+◌, ◌≤◌, get_or, sym, subst, arith}
+use Rattle.std.proofs.Common.{ℕ, ◌+◌, sym, subst, arith}
 use Rattle.demand.specs.Copied.{graph_of}
 use Rattle.demand.specs.Table.{Best}
 use Rattle.demand.proofs.Bests.{most_row, most_all}

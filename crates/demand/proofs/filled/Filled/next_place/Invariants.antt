@@ -1,6 +1,4 @@
-use Rattle.std.proofs.Common.{◌-◌}
 use Rattle.demand.specs.Copied.{graph_of}
-use Rattle.demand.specs.Table.{cell_at}
 use Rattle.demand.proofs.Tolds.{NoneBefore}
 use Rattle.demand.proofs.filled.Filled.next_place.Given as goal
 

@@ -1,8 +1,8 @@
-use Rattle.std.proofs.Common.{◌≡◌, ◌+◌, ◌-◌, ◌*◌, max, get_or, take, None, sym, ap, ◌∙◌, subst, arith, rules}
+use Rattle.std.proofs.Common.{◌≡◌, ◌+◌, ◌-◌, max, get_or, take, None, sym, ap, ◌∙◌, subst, arith, rules}
 use Rattle.std.proofs.lemmas.List.{get_or-take}
 use Rattle.demand.specs.Copied.{graph_of}
 use Rattle.demand.specs.Table.{Rest, cell_at}
-use Rattle.demand.proofs.Bests.{rest_absent, rest_late, rest_more, greater}
+use Rattle.demand.proofs.Bests.{rest_absent, rest_late, rest_more}
 use Rattle.demand.proofs.Copies.{gap_ticks}
 use Rattle.demand.proofs.filled.Filled.rest_after.Goals as goal
 use Rattle.demand.proofs.filled.Filled.rest_after.Goals.{in-Some+then-gap-t, in_default, in_default-via-in-None-1, in_default-via-in-Some+else-gap-t}
@@ -23,10 +23,9 @@ loop-u-preserved c =
           let is = gap ∙ w.in-Some.is in
           let least = gap_ticks graph local.lawful v u d c.requires.place (omega arith) is in
           let cell = cell_at c.args.self.now.work.now (t - d) u in
-          let x = greater rest cell c.match-gap.rest (w.rest-is ∙ w.max-rest.ensures ∙ ap (max rest) (w.row.ensures.cells u (omega arith))) in
           rest_more graph t (v + 1) u rest cell d c.match-gap.rest c.loop-u.invariant is (omega (arith, w.if-gap-t.true))
           (c.requires.full.above (t - d) u (omega (arith, w.if-gap-t.true)) (omega arith))
-          x.0 x.1 x.2
+          (w.rest-is ∙ w.max-rest.ensures ∙ ap (max rest) (w.row.ensures.cells u (omega arith)))
       | in_default w ↦
           subst (λ n. Rest graph t (v + 1) (u + 1) n) (sym w.rest-is)
           (elim w.in_default.branch [

@@ -1,7 +1,8 @@
-use Rattle.std.proofs.Common.{◌*◌, ◌≤◌, get_or, ap, ◌∙◌, sym, subst, arith}
+use Rattle.std.proofs.Common.{◌-◌, ◌*◌, subst, arith}
+use Rattle.std.proofs.lemmas.Grind.{common_steps}
 use Rattle.demand.specs.Copied.{graph_of}
 use Rattle.demand.specs.Table.{Rows}
-use Rattle.demand.proofs.Tables.{rows_more, spared_more}
+use Rattle.demand.proofs.Tables.{rows_more}
 use Rattle.demand.proofs.local.Local.fill.Goals as goal
 
 pub loop-t-preserved : goal.loop-t-preserved
@@ -14,5 +15,5 @@ loop-t-preserved c =
     let whole = c.split_at_mut-before.ensures.value in
     let long = c.split_at_mut-before.ensures.front_len in (
       rows_more graph before row row' t c.args.self.now.lawful.few long (subst (λ work. Rows graph work t 0) whole c.loop-t.invariant.0) c.fill_row.ensures.row,
-      λ i h. spared_more before row row' (t * 24) i long c.fill_row.ensures.spare (omega arith) ∙ ap (λ work. get_or work i 0) (sym whole) ∙ c.loop-t.invariant.1 i h,
+      λ i h. let same = c.fill_row.ensures.spare (i - t * 24) in let kept = c.loop-t.invariant.1 i h in grind (arith, common_steps),
     )
