@@ -1,51 +1,54 @@
--- How the checks of a list go on from item to item.
-use Rattle.std.proofs.Common.{◌≡◌, ℕ, ◌+◌, ◌<◌, ◌≤◌, Bool, true, false, ◌&&◌, ltb, List, [], ◌∷◌, length, get_or, drop, sym, refl, ap, ◌∙◌, arith}
-use Rattle.std.proofs.lemmas.List.{at_drop_more, at_drop_all}
-use Rattle.std.proofs.lemmas.Bool.{lt-ltb, le-ltb, eq-eqb, ne_eqb}
+-- How the checks of a list come out.
+use Rattle.std.proofs.Common.{◌≡◌, ℕ, zero, suc, ◌+◌, ◌-◌, ◌<◌, ◌≤◌, Bool, true, false, ◌&&◌, ltb, List, [], ◌∷◌, length, get_or, sym, refl, ap, ◌∙◌, add-one, arith}
+use Rattle.std.specs.List.{list_all, IsAllAdjacentAnswer}
+use Rattle.std.proofs.lemmas.Bool.{lt-ltb, le-ltb, eq-eqb, ne_eqb, and_from, and_left, and_right}
 use Rattle.engine.specs.Limits.{rising, speeds_ok, every}
 
 module _ {X : Type 0} (key : X → ℕ) (M : ℕ) where
-  -- the next item, x, has key k
-  rising_next : (xs : List X) (i b : ℕ) (x : X) (k : ℕ) → i < length xs → x ≡ get_or xs i x → k ≡ key x → rising key M b (drop i xs) ≡ (ltb b k && rising key M k (drop (i + 1) xs))
-  rising_next xs i b x k h is e =
-      at_drop_more (rising key M b) xs i x h ∙ ap (λ n. ltb b n && rising key M n (drop (i + 1) xs)) (ap key (sym is) ∙ sym e)
+  -- the neighbours rise, and the last item is below M
+  rising_true :
+      (x : X) (xs : List X) → ((k : ℕ) (d : X) → k + 1 < length (x ∷ xs) → true ≡ ltb (key (get_or (x ∷ xs) k d)) (key (get_or (x ∷ xs) (suc k) d))) → ((d : X) → key (get_or (x ∷ xs) (length xs) d) < M) → rising key M (key x) xs ≡ true
+  rising_true x [] up low = lt-ltb (key x) M (low x)
+  rising_true x (y ∷ ys) up low =
+      and_from _ _ (sym (up 0 x (omega arith))) (rising_true y ys (λ k d h. up (suc k) d (omega arith)) low)
 
-  -- k is above b
-  pub rising_more : (xs : List X) (i b : ℕ) (x : X) (k : ℕ) → i < length xs → x ≡ get_or xs i x → k ≡ key x → b < k → rising key M b (drop i xs) ≡ rising key M k (drop (i + 1) xs)
-  rising_more xs i b x k h is e above =
-      rising_next xs i b x k h is e ∙ ap (λ t. t && rising key M k (drop (i + 1) xs)) (lt-ltb b k above)
+  -- two neighbours do not
+  rising_falls : (x : X) (xs : List X) (k : ℕ) → k + 1 < length (x ∷ xs) → ((d : X) → false ≡ ltb (key (get_or (x ∷ xs) k d)) (key (get_or (x ∷ xs) (suc k) d))) → rising key M (key x) xs ≡ false
+  rising_falls x [] k h falls = absurd (omega arith)
+  rising_falls x (y ∷ ys) zero h falls = and_left _ _ (sym (falls x))
+  rising_falls x (y ∷ ys) (suc k) h falls = and_right _ _ (rising_falls y ys k (omega arith) falls)
 
-  -- k is not above b
-  pub rising_stops : (xs : List X) (i b : ℕ) (x : X) (k : ℕ) → i < length xs → x ≡ get_or xs i x → k ≡ key x → k ≤ b → rising key M b (drop i xs) ≡ false
-  rising_stops xs i b x k h is e below =
-      rising_next xs i b x k h is e ∙ ap (λ t. t && rising key M k (drop (i + 1) xs)) (le-ltb b k below)
+  -- the last item is not below M
+  rising_high : (x : X) (xs : List X) → ((d : X) → M ≤ key (get_or (x ∷ xs) (length xs) d)) → rising key M (key x) xs ≡ false
+  rising_high x [] high = le-ltb (key x) M (high x)
+  rising_high x (y ∷ ys) high = and_right _ _ (rising_high y ys high)
 
-  pub rising_done : (xs : List X) (i b : ℕ) → length xs ≤ i → rising key M b (drop i xs) ≡ ltb b M
-  rising_done xs i b h = at_drop_all (rising key M b) xs i h
+  -- the last item, y, as the list without the first counts its place
+  last_is : (y z : X) (zs : List X) (d : X) → y ≡ get_or (z ∷ zs) (length (z ∷ zs) - 1) d → key y ≡ key (get_or (z ∷ zs) (length zs) d)
+  last_is y z zs d e =
+      let n : length (z ∷ zs) - 1 ≡ length zs = omega arith in
+      ap key (e ∙ ap (λ k. get_or (z ∷ zs) k d) n)
 
-  -- the first item, x, is at m
-  pub speeds_first : (m : ℕ) (xs : List X) (x : X) → 0 < length xs → x ≡ get_or xs 0 x → key x ≡ m → rising key M m (drop 1 xs) ≡ speeds_ok key m M xs
-  speeds_first m [] x h is e = absurd (omega arith)
-  speeds_first m (y ∷ ys) x h is e =
-      let at : key y ≡ m = ap key (sym is) ∙ e in
-      sym (ap (λ t. t && rising key M (key y) ys) (eq-eqb (key y) m at) ∙ ap (λ b. rising key M b ys) at)
+  module _ (m : ℕ) where
+    -- the first item, x, is not at m
+    pub speeds_begin : (x : X) (xs : List X) → (0 < length xs) × ((d : X) → x ≡ get_or xs 0 d) → (key x ≡ m → ⊥) → false ≡ speeds_ok key m M xs
+    speeds_begin x [] at ne = absurd (omega arith)
+    speeds_begin x (z ∷ zs) at ne = sym (and_left _ _ (ne_eqb (key z) m (λ e. ne (ap key (at.1 z) ∙ e))))
 
-  -- or it is not
-  pub speeds_wrong : (m : ℕ) (xs : List X) (x : X) → 0 < length xs → x ≡ get_or xs 0 x → (key x ≡ m → ⊥) → speeds_ok key m M xs ≡ false
-  speeds_wrong m [] x h is ne = absurd (omega arith)
-  speeds_wrong m (y ∷ ys) x h is ne = ap (λ t. t && rising key M (key y) ys) (ne_eqb (key y) m (λ e. ne (ap key is ∙ e)))
+    -- the last item, y, is not below M
+    pub speeds_end : (y : X) (xs : List X) → (0 < length xs) × ((d : X) → y ≡ get_or xs (length xs - 1) d) → M ≤ key y → false ≡ speeds_ok key m M xs
+    speeds_end y [] at high = absurd (omega arith)
+    speeds_end y (z ∷ zs) at high =
+        sym (and_right _ _ (rising_high z zs (λ d. let e = last_is y z zs d (at.1 d) in omega arith)))
 
-  pub speeds_none : (m : ℕ) (xs : List X) → length xs ≡ 0 → speeds_ok key m M xs ≡ false
-  speeds_none m [] e = refl
-  speeds_none m (y ∷ ys) e = absurd (omega arith)
+    -- both ends are right, and b says whether the neighbours rise
+    pub speeds_between :
+        (x y : X) (xs : List X) (b : Bool) → (0 < length xs) × ((d : X) → x ≡ get_or xs 0 d) → key x ≡ m → ((d : X) → y ≡ get_or xs (length xs - 1) d) → key y < M → IsAllAdjacentAnswer (λ p q c. c ≡ ltb (key p) (key q)) xs b → b ≡ speeds_ok key m M xs
+    speeds_between x y [] b at e last low answer = absurd (omega arith)
+    speeds_between x y (z ∷ zs) true at e last low answer = sym (and_from _ _ (eq-eqb (key z) m (sym (ap key (at.1 z)) ∙ e)) (rising_true z zs (λ k d h. answer k d h ∙ ap (λ j. ltb (key (get_or (z ∷ zs) k d)) (key (get_or (z ∷ zs) j d))) (add-one k)) (λ d. let f = last_is y z zs d (last d) in omega arith)))
+    speeds_between x y (z ∷ zs) false at e last low answer = sym (and_right _ _ (rising_falls z zs answer.0 answer.1 (λ d. answer.2 d ∙ ap (λ j. ltb (key (get_or (z ∷ zs) answer.0 d)) (key (get_or (z ∷ zs) j d))) (add-one answer.0))))
 
--- each item passes a test
-module _ {X : Type 0} (test : X → Bool) where
-  pub every_more : (xs : List X) (i : ℕ) (x : X) → i < length xs → test (get_or xs i x) ≡ true → every test (drop i xs) ≡ every test (drop (i + 1) xs)
-  every_more xs i x h passes = at_drop_more (every test) xs i x h ∙ ap (λ t. t && every test (drop (i + 1) xs)) passes
-
-  pub every_stops : (xs : List X) (i : ℕ) (x : X) → i < length xs → test (get_or xs i x) ≡ false → every test (drop i xs) ≡ false
-  every_stops xs i x h fails = at_drop_more (every test) xs i x h ∙ ap (λ t. t && every test (drop (i + 1) xs)) fails
-
-  pub every_done : (xs : List X) (i : ℕ) → length xs ≤ i → every test (drop i xs) ≡ true
-  every_done xs i h = at_drop_all (every test) xs i h
+-- the same test, as the library says it
+pub every_is : {X : Type 0} (test : X → Bool) (xs : List X) → every test xs ≡ list_all test xs
+every_is test [] = refl
+every_is test (x ∷ xs) = ap (λ t. test x && t) (every_is test xs)

@@ -1,8 +1,7 @@
 // How an engine card is made, and how one of its modes or bands is changed.
-ghost use Rattle.std.specs.Prelude.{◌≡◌, ◌<◌, ◌≤◌, length, take, IfOk, MatchResult};
+ghost use Rattle.std.specs.Prelude.{◌≡◌, IfOk, MatchResult};
 ghost use Rattle.refusal.specs.Numbers.{refusal_in};
 ghost use Rattle.engine.specs.Views.{numbers_of, bands_of, parts_of, parts_given};
-ghost use Rattle.table.specs.Ordered.{insert_by};
 ghost use Rattle.engine.specs.Changes.{card_refusal, cut_refusal, cut_wrong, cut, recost_refusal, recost, holds_number};
 
 use crate::card::{Card, CardParts, Mode};

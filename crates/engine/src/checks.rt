@@ -6,48 +6,32 @@ ghost use Rattle.engine.specs.Views.{modes_ok};
 use crate::card::Mode;
 use crate::engine::Engine;
 use table::Keyed;
+pub use task::checked::cost_right;
 
 // Whether lower speeds begin at the least speed, rise, and stay below the greatest.
 fn speeds_right<T: Keyed>(items: &[T], least: u32, greatest: u32) -> bool
     ensures { result ≡ speeds_ok T.Keyed.key least greatest items.now }
 {
-    if items.is_empty() || items[0].key() != least {
+    let (Some(first), Some(last)) = (items.first(), items.last()) else {
+        return false;
+    };
+    if first.key() != least || last.key() >= greatest {
         return false;
     }
-    let mut before = least;
-    for i in 1..items.len() {
-        let speed = items[i].key();
-        if speed <= before {
-            return false;
-        }
-        before = speed;
-    }
-    before < greatest
-}
-
-// Whether a cost is within its limits.
-pub fn cost_right(cost: u32) -> bool
-    ensures { result ≡ cost_ok cost }
-{
-    1 <= cost && cost <= 100_000
+    items.is_sorted_by(|before, next| before.key() < next.key())
 }
 
 fn costs_right(modes: &[Mode]) -> bool
     ensures { result ≡ every (λ m. cost_ok m.cost) modes.now }
 {
-    for mode in modes {
-        if !cost_right(mode.cost) {
-            return false;
-        }
-    }
-    true
+    modes.iter().all(|mode| cost_right(mode.cost))
 }
 
 // Whether an angle is right for an engine.
 pub fn angle_right(engine: &Engine, angle: u32) -> bool
     ensures { result ≡ angle_ok engine.now.greatest angle }
 {
-    engine.greatest <= angle && angle <= 24_000_000
+    (engine.greatest..=24_000_000).contains(&angle)
 }
 
 // Whether a mode list is right for an engine.

@@ -22,15 +22,11 @@ impl Engine {
             fall,
             entry,
         } = numbers;
-        if least < 1 || least >= greatest || greatest > 150_000 {
+        let turns = (1..greatest).contains(&least) && greatest <= 150_000;
+        if !turns || !(1..=500).contains(&rise) || !(1..=500).contains(&fall) {
             return Err(Refusal::EngineLimits);
         }
-        if rise < 1 || rise > 500 || fall < 1 || fall > 500 {
-            return Err(Refusal::EngineLimits);
-        }
-        let Ok(entry) = EntryCost::new(entry) else {
-            return Err(Refusal::EngineLimits);
-        };
+        let entry = EntryCost::new(entry).map_err(|_| Refusal::EngineLimits)?;
         Ok(Engine {
             least,
             greatest,

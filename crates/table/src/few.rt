@@ -1,10 +1,11 @@
 // Tables of fixed length whose first cells are in use.
-ghost use Rattle.std.specs.Prelude.{◌≡◌, ◌≤◌, length};
+ghost use Rattle.std.specs.Prelude.{◌≡◌, ◌≤◌, length, ⊤};
 
 use crate::Keyed;
 use std::alloc::AllocError;
 
-// At most `N` items: the first `used` cells of a table.
+// At most `N` items: the first `used` cells of a table. The count stands beside a table of fixed
+// length, and is no Vec, since a plan takes no memory of the heap.
 pub struct Few<T, const N: usize> {
     pub table: [T; N],
     pub used: usize,
@@ -14,6 +15,10 @@ pub struct Few<T, const N: usize> {
 
 // By hand, since no derive takes a struct with a ghost field and a type parameter.
 impl<T: Copy, const N: usize> Clone for Few<T, N> {
+    ghost is_clone = { λ x y. y ≡ x };
+
+    ghost is_infallible = { λ _. ⊤ };
+
     fn clone(&self) -> Result<Few<T, N>, AllocError> {
         Ok(*self)
     }
@@ -81,7 +86,8 @@ impl<T: Keyed + Copy, const N: usize> Few<T, N> {
     ghost use Rattle.table.specs.Found.{First, Lacks};
     ghost use Rattle.table.specs.Ordered.{insert_by};
 
-    // The index of the first item with that key.
+    // The index of the first item with that key. Cell by cell, and no binary search, as the promise
+    // holds of items in any order.
     pub fn find(&self, key: u32) -> Option<usize>
         ensures { MatchOption result (Lacks T.Keyed.key key (items_of self.now)) (λ i. (i < self.now.used) × First T.Keyed.key key self.now.table i) }
     {

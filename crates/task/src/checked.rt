@@ -5,6 +5,8 @@ ghost use Rattle.refusal.specs.declared.Refusal.TheVariants.{ValueLimits};
 use refusal::Refusal;
 
 // A share of a deadline, in thousandths.
+// Share and EntryCost stay two types: one type with its limits as parameters would tell a share from
+// a cost only because their limits differ, and could name the unit of neither.
 #[derive(Clone, Copy)]
 pub struct Share {
     thousandths: u16,
@@ -20,10 +22,11 @@ impl Share {
         ensures made { MatchResult result (λ s. s.thousandths ≡ thousandths) (λ e. e ≡ ValueLimits) }
         ensures when { is_ok result ≡ (nat_le 1 thousandths && nat_le thousandths 1000) }
     {
-        if thousandths < 1 || thousandths > 1000 {
-            return Err(Refusal::ValueLimits);
+        if (1..=1000).contains(&thousandths) {
+            Ok(Share { thousandths })
+        } else {
+            Err(Refusal::ValueLimits)
         }
-        Ok(Share { thousandths })
     }
 
     pub fn thousandths(&self) -> u16
@@ -48,10 +51,11 @@ impl EntryCost {
         ensures made { MatchResult result (λ e. e.ticks ≡ ticks) (λ e. e ≡ ValueLimits) }
         ensures when { is_ok result ≡ nat_le ticks 1000 }
     {
-        if ticks > 1000 {
-            return Err(Refusal::ValueLimits);
+        if ticks <= 1000 {
+            Ok(EntryCost { ticks })
+        } else {
+            Err(Refusal::ValueLimits)
         }
-        Ok(EntryCost { ticks })
     }
 
     pub fn ticks(&self) -> u16
@@ -59,4 +63,11 @@ impl EntryCost {
     {
         self.ticks
     }
+}
+
+// Whether the cost of a job is within its limits.
+pub fn cost_right(cost: u32) -> bool
+    ensures { result ≡ (nat_le 1 cost && nat_le cost 100000) }
+{
+    (1..=100_000).contains(&cost)
 }

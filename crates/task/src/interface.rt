@@ -35,7 +35,7 @@ pub trait Task {
     fn has(&self, place: usize) -> bool
         ensures { result ≡ is_place (graph self.now) place }
     {
-        1 <= place && place <= self.places()
+        (1..=self.places()).contains(&place)
     }
 
     // a law: these answers keep the limits of the interface

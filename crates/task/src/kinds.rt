@@ -6,6 +6,7 @@ ghost use Rattle.task.specs.Kinds.{empty_graph, timed_graph};
 ghost use Rattle.task.specs.Lawful.{empty_lawful, timed_lawful};
 ghost use Rattle.task.specs.Following.{none_follow, timing_follows};
 
+use crate::checked::cost_right;
 use crate::interface::Task;
 use refusal::Refusal;
 
@@ -81,13 +82,8 @@ impl Timed {
             deadline,
             cost,
         } = parts;
-        if period < 1 || period > 100_000_000 {
-            return Err(Refusal::ValueLimits);
-        }
-        if deadline < 1 || deadline > period {
-            return Err(Refusal::ValueLimits);
-        }
-        if cost < 1 || cost > 100_000 {
+        let in_time = (1..=100_000_000).contains(&period) && (1..=period).contains(&deadline);
+        if !in_time || !cost_right(cost) {
             return Err(Refusal::ValueLimits);
         }
         Ok(Timed {
@@ -102,7 +98,7 @@ impl Timed {
         ensures when { is_ok result ≡ (nat_le 1 cost && nat_le cost 100000) }
         ensures done { MatchResult result (λ _. (self.new.period ≡ self.old.period) × (self.new.deadline ≡ self.old.deadline) × (self.new.cost ≡ cost)) (λ e. (e ≡ ValueLimits) × (self.new ≡ self.old)) }
     {
-        if cost < 1 || cost > 100_000 {
+        if !cost_right(cost) {
             return Err(Refusal::ValueLimits);
         }
         self.cost = cost;

@@ -1,4 +1,6 @@
 // Layers over any kind of task, which are kinds again.
+// Each passes on itself the answers that it does not change: one generic layer would need a trait
+// with laws for these two, which is longer than what is passed on.
 ghost use Rattle.task.specs.Jobs.{EntryLists, ShareLists};
 ghost use Rattle.task.specs.Kinds.{entry_graph, share_graph};
 ghost use Rattle.task.specs.Lawful.{entry_lawful, share_lawful};

@@ -1,14 +1,12 @@
-use Rattle.std.proofs.Common.{sym, ◌∙◌}
-use Rattle.engine.proofs.Rising.{every_more, every_stops, every_done}
+use Rattle.std.proofs.Common.{◌∙◌, sym, rules}
+use Rattle.std.proofs.lemmas.Iterator.{YieldsList-from_slice}
+use Rattle.std.proofs.lemmas.Iterator.Search.{all_from_yields_List}
+use borrow.Author.Tests.{tests}
+use Rattle.engine.specs.Limits.{cost_ok}
+use Rattle.engine.proofs.Rising.{every_is}
 use Rattle.engine.proofs.checks.costs_right.Goals as goal
 
-pub returns-then-not-cost_right : goal.returns-then-not-cost_right
-returns-then-not-cost_right c =
-    sym (every_stops _ _ _ _ c.loop-mode-test.true (sym c.if-not-cost_right.ensures)) ∙ c.loop-mode.invariant
-
-pub loop-mode-preserved : goal.loop-mode-preserved
-loop-mode-preserved c =
-    sym (every_more _ _ _ _ c.loop-mode-test.true (sym c.if-not-cost_right.ensures)) ∙ c.loop-mode.invariant
-
 pub returns : goal.returns
-returns c = sym (every_done _ _ _ c.loop-mode-test.false) ∙ c.loop-mode.invariant
+returns c =
+    all_from_yields_List (λ m. cost_ok m.cost) _ _ c.all.result c.all.ensures.ran (YieldsList-from_slice c.args.modes.now c.iter.ensures.rest) (λ x b q k. search (rules, tests))
+    ∙ sym (every_is (λ m. cost_ok m.cost) c.args.modes.now)
