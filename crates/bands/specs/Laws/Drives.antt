@@ -1,7 +1,7 @@
 -- Every drive's job list follows the graph of the card's bands; and a drive as it is judged is a job list of the share
 -- over the entry cost over the bands.
 use Rattle.std.proofs.Common.{◌≡◌, ℕ, ◌+◌, ◌-◌, ◌*◌, ◌/◌, ◌<◌, ◌≤◌, max, ◌⊎◌, List, [], ◌∷◌, length, sym, refl, ap, ◌∙◌, subst, inl, inr, ⊎_elim, mul-le-mul_left, mul-add, arith}
-use native.Mathlib.Nat.{le_of_mul-le-mul_left, add-sub_cancel_left, mul-div_cancel_left}
+use native.Mathlib.Nat.{add-sub_cancel_left, mul-div_cancel_left}
 use Rattle.std.proofs.lemmas.List.{drop_all, get_or_past}
 use Rattle.std.proofs.lemmas.Bool.{cases_lt}
 use Rattle.task.specs.Kinds.{reduced}
@@ -11,6 +11,7 @@ use Rattle.bands.specs.Graphs.{lower_end, upper_end, InRange, mode_at, mode_end,
 use Rattle.bands.specs.Turns.{Turn, InBand, end_speed}
 use Rattle.bands.specs.Drives.{InMode, Drive, Releases, BandsLists, ReleasesJudged, DrivesJudged}
 use Rattle.bands.specs.Laws.Ready.{Ready}
+use Rattle.bands.specs.Laws.Squares.{cancel}
 use Rattle.bands.specs.Laws.Lawful.{cost_is}
 use Rattle.bands.specs.Laws.Turns.{no_turn_beats_its_gap}
 
@@ -18,14 +19,11 @@ use Rattle.bands.specs.Laws.Turns.{no_turn_beats_its_gap}
 k_below : (k a b : ℕ) → k * a < k * b → a < b
 k_below k a b h = ⊎_elim (λ l. l) (λ g. let m = mul-le-mul_left k g in absurd (omega arith)) (cases_lt a b)
 
-k_most : (k a b : ℕ) → 1 ≤ k → k * a ≤ k * b → a ≤ b
-k_most k a b o h = le_of_mul-le-mul_left h o
-
 -- a whole speed w at or below v, in k-ths, lies in the range that v lies in
 in_whole : (M k low up w v : ℕ) → 1 ≤ k → low ≤ w → k * w ≤ v → (v < k * up) ⊎ ((up ≡ M) × (v ≤ k * M)) → InRange M low up w
 in_whole M k low up w v o h l (inl b) = (h, inl (k_below k w up (omega arith)))
 in_whole M k low up w v o h l (inr b) =
-    let most : w ≤ M = k_most k w M o (omega (arith, b.1)) in
+    let most : w ≤ M = cancel k w M o (omega (arith, b.1)) in
     (h, ⊎_elim (λ (lt : w < M). inl (omega (arith, b.0))) (λ (ge : M ≤ w). inr (b.0, omega arith)) (cases_lt w M))
 
 -- the mode of a speed shares a speed with the band of that speed

@@ -4,7 +4,8 @@ use native.Mathlib.Nat.{le_of_mul-le-mul_left, mul-div-le, lt-mul-div-succ}
 use Rattle.std.proofs.lemmas.Bool.{cases_lt}
 use Rattle.bands.specs.Gaps.{square}
 
-cancel : (c a b : ℕ) → 1 ≤ c → c * a ≤ c * b → a ≤ b
+-- a common factor goes
+pub cancel : (c a b : ℕ) → 1 ≤ c → c * a ≤ c * b → a ≤ b
 cancel c a b p h = le_of_mul-le-mul_left h p
 
 -- a number whose square is below that of r + 1 is at most r
@@ -81,7 +82,7 @@ two_ordered u v h =
     let e : u + (v - u) ≡ v = omega arith in
     subst (λ x. 2 * (u * x) ≤ u * u + x * x) e (two_apart u (v - u))
 
-two_squares : (u v : ℕ) → 2 * (u * v) ≤ u * u + v * v
+pub two_squares : (u v : ℕ) → 2 * (u * v) ≤ u * u + v * v
 two_squares u v =
     ⊎_elim (λ l. let h : u ≤ v = omega arith in two_ordered u v h) (λ l. let m = two_ordered v u l in omega arith)
     (cases_lt u v)

@@ -1,12 +1,9 @@
 -- The arithmetic of turns, over plain numbers: U and W are the upper ends of the first and the last band, S the sum
 -- of all neighbouring speeds of a turn, n the number of its steps, and p its greatest speed.
 use Rattle.std.proofs.Common.{◌≡◌, ℕ, ◌+◌, ◌-◌, ◌*◌, ◌<◌, ◌≤◌, ap, subst, ⊎_elim, mul-le-mul, mul-le-mul_left, mul-pos, arith}
-use native.Mathlib.Nat.{le_of_mul-le-mul_left}
 use Rattle.std.proofs.lemmas.Bool.{cases_lt}
 use Rattle.bands.specs.Gaps.{square}
-
-cancel : (c a b : ℕ) → 1 ≤ c → c * a ≤ c * b → a ≤ b
-cancel c a b p h = le_of_mul-le-mul_left h p
+use Rattle.bands.specs.Laws.Squares.{cancel, two_squares}
 
 -- the product of two facts
 crossed : (a x c d : ℕ) → c ≤ d → a * d + (a + x) * c ≤ a * c + (a + x) * d
@@ -16,11 +13,6 @@ cross : (a b c d : ℕ) → a ≤ b → c ≤ d → a * d + b * c ≤ a * c + b 
 cross a b c d h k =
     let e : a + (b - a) ≡ b = omega arith in
     subst (λ y. a * d + y * c ≤ a * c + y * d) e (crossed a (b - a) c d k)
-
-two_squares : (u v : ℕ) → 2 * (u * v) ≤ u * u + v * v
-two_squares u v =
-    ⊎_elim (λ l. let h : u ≤ v = omega arith in let m = cross u v u v h h in omega arith)
-    (λ h. let m = cross v u v u h h in omega arith) (cases_lt u v)
 
 -- ---- one step of a turn
 pub step_square : (A v w : ℕ) → w ≤ v + A → square w ≤ square v + A * (v + w)

@@ -21,7 +21,7 @@ returns c =
     let p = c.args.place in
     let least =
     sym (as_is c.min.result)
-    ∙ min_from_yields_List _ c.min.result c.min.ensures.ran
+    ∙ min_from_yields_List c.filter_map.result c.min.result c.min.ensures.ran
     (YieldsList-from_filter_map _ (band_gap e parts p)
     (YieldsList-at c.filter_map.ensures.source (YieldsList-from_inclusive c.new.result)) c.filter_map.ensures.closure
     (λ x r q k. search (rules, tests)))
