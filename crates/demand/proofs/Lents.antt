@@ -1,19 +1,7 @@
 -- What a horizon and lent memory that are not refused have.
-use Rattle.std.proofs.Common.{◌≡◌, ℕ, ◌+◌, ◌*◌, ◌≤◌, Bool, true, false, not, ◌&&◌, ◌||◌, ltb, leb, List, [], ◌∷◌, Some, None, Option, sym, refl, arith}
-use Rattle.std.proofs.lemmas.Bool.{not-false, and_parts, or_parts, leb-true, ltb-false}
-use Rattle.refusal.specs.declared.Refusal.{Refusal}
-use Rattle.refusal.specs.declared.Refusal.TheVariants.{HorizonLimits, ShortMemory}
-use Rattle.refusal.specs.Numbers.{Check, first_of, ◌gives◌}
+use Rattle.std.proofs.Common.{◌≡◌, ℕ, ◌+◌, ◌*◌, ◌≤◌, None, rules, arith}
+use Rattle.std.proofs.lemmas.Grind.{common_steps}
 use Rattle.demand.specs.Judged.{lent_refusal}
-use Rattle.demand.specs.Told.{walk_refusal}
-
-refused : (r : Refusal) → ◌≡◌ {A = Option Refusal} (Some r) None → ⊥
-refused r e = let z : ◌≡◌ {A = ℕ} 0 1 = cc in omega arith
-
--- where no check refuses, the first does not hold, and no later one refuses
-passed : (b : Bool) (r : Refusal) (cs : List Check) → first_of (b gives r ∷ cs) ≡ None → (b ≡ false) × (first_of cs ≡ None)
-passed true r cs e = absurd (refused r e)
-passed false r cs e = (refl, e)
 
 pub record Lent (horizon work totals : ℕ) : Type 0 where
   pub most : horizon ≤ 20000
@@ -21,33 +9,8 @@ pub record Lent (horizon work totals : ℕ) : Type 0 where
   pub totals_room : horizon + 1 ≤ totals
 
 pub lent_fits : (horizon work totals : ℕ) → None ≡ lent_refusal horizon work totals → Lent horizon work totals
-lent_fits horizon work totals e =
-    let first = passed (not (leb 1 horizon && leb horizon 20000)) HorizonLimits
-    ((ltb work (24 * (horizon + 1)) || ltb totals (horizon + 1)) gives ShortMemory ∷ []) (sym e) in
-    let second = passed (ltb work (24 * (horizon + 1)) || ltb totals (horizon + 1)) ShortMemory [] first.1 in
-    let limits = and_parts (leb 1 horizon) (leb horizon 20000) (not-false (leb 1 horizon && leb horizon 20000) first.0) in
-    let rooms = or_parts (ltb work (24 * (horizon + 1))) (ltb totals (horizon + 1)) second.0 in
-    record {
-      most = leb-true horizon 20000 limits.1;
-      work_room = ltb-false work (24 * (horizon + 1)) rooms.0;
-      totals_room = ltb-false totals (horizon + 1) rooms.1;
-    }
-
--- the same of a window and the memory lent for its jobs
-pub record LentTold (window work jobs : ℕ) : Type 0 where
-  pub most : window ≤ 20000
-  pub work_room : 24 * (window + 1) ≤ work
-  pub jobs_room : window ≤ jobs
-
-pub told_fits : (window work jobs : ℕ) → None ≡ walk_refusal window work jobs → LentTold window work jobs
-told_fits window work jobs e =
-    let first = passed (not (leb 1 window && leb window 20000)) HorizonLimits
-    ((ltb work (24 * (window + 1)) || ltb jobs window) gives ShortMemory ∷ []) (sym e) in
-    let second = passed (ltb work (24 * (window + 1)) || ltb jobs window) ShortMemory [] first.1 in
-    let limits = and_parts (leb 1 window) (leb window 20000) (not-false (leb 1 window && leb window 20000) first.0) in
-    let rooms = or_parts (ltb work (24 * (window + 1))) (ltb jobs window) second.0 in
-    record {
-      most = leb-true window 20000 limits.1;
-      work_room = ltb-false work (24 * (window + 1)) rooms.0;
-      jobs_room = ltb-false jobs window rooms.1;
-    }
+lent_fits horizon work totals e = record {
+  most = search rules;
+  work_room = grind (arith, common_steps);
+  totals_room = search rules;
+}

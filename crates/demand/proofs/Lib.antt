@@ -1,5 +1,6 @@
 pub mod Bests
 pub mod Copies
 pub mod Lents
+pub mod Made
 pub mod Tables
 pub mod Tolds

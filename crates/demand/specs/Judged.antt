@@ -6,6 +6,13 @@ use Rattle.refusal.specs.Numbers.{first_of, ◌gives◌}
 use Rattle.task.specs.Graph.{Graph}
 use Rattle.task.specs.Walks.{Greatest}
 
+-- what is asked of a horizon, of a lent worktable, and of a lent list in which so many cells are wanted
+abbrev pub memory_refusal : ℕ → ℕ → ℕ → ℕ → Option Refusal
+memory_refusal horizon work list cells = first_of (
+    not (nat_le 1 horizon && nat_le horizon 20000) gives HorizonLimits ∷
+    (nat_lt work (24 * (horizon + 1)) || nat_lt list cells) gives ShortMemory ∷
+    [])
+
 -- what a judging to a horizon asks of the horizon and of the memory lent to it
 abbrev pub lent_refusal : ℕ → ℕ → ℕ → Option Refusal
 lent_refusal horizon work totals = first_of (

@@ -1,15 +1,24 @@
-// A task's answers, each asked once and kept in plain arrays.
+// A task's answers, each asked once.
 ghost use Rattle.std.specs.Prelude.{◌≤◌};
+ghost use Rattle.task.specs.Graph.{Lawful};
+ghost use Rattle.demand.specs.Stops.{graph_on, lawful_prop};
 
-// The cells of a row: one for each place that a task may have.
+// The most places that a task may have: the cells of a row of the worktable.
 pub(crate) const ROW: usize = 24;
 
-// Place p stands at p - 1. The gap from place p to place q stands in row p - 1, column q - 1.
+// One place: its cost, its deadline, and the gap from it to each place.
+#[derive(Clone, Copy)]
+pub(crate) struct Stop {
+    pub(crate) cost: u32,
+    pub(crate) deadline: u32,
+    pub(crate) gaps: [Option<u32>; ROW],
+}
+
+// Place p stands at p - 1.
 #[derive(Drop)]
 pub(crate) struct Local {
+    // Project rule: the memory is fixed, so an array has its count beside it.
     pub(crate) places: usize,
-    pub(crate) cost: [u32; ROW],
-    pub(crate) deadline: [u32; ROW],
-    pub(crate) gap: [Option<u32>; ROW * ROW],
-    ghost few: { places ≤ 24 },
+    pub(crate) stops: [Stop; ROW],
+    ghost lawful: { Lawful (graph_on places stops) } by { lawful_prop (graph_on places stops) },
 }

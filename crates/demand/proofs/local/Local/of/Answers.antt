@@ -1,7 +1,12 @@
+use Rattle.std.proofs.Common.{sym, subst}
+use Rattle.task.specs.Graph.{Lawful}
 use Rattle.demand.proofs.Copies.{copy_is}
 use Rattle.demand.proofs.local.Local.of.Goals as goal
 
+pub invariant_of-result : goal.invariant_of-result
+invariant_of-result g c =
+    let lawful = g.met.T.Task.lawful c.args.task.now in
+    record { lawful = subst Lawful (sym (copy_is c.places-places.result c.all.result (g.T.Task.graph c.args.task.now) lawful c.places-places.ensures c.all.ensures)) lawful }
+
 pub returns : goal.returns
-returns g c =
-    copy_is _ (g.T.Task.graph c.args.task.now) (g.met.T.Task.lawful c.args.task.now)
-    (record { places = c.places-places.ensures; cost = c.costs.ensures; deadline = c.deadlines.ensures; gap = c.gaps.ensures })
+returns g c = copy_is c.places-places.result c.all.result (g.T.Task.graph c.args.task.now) (g.met.T.Task.lawful c.args.task.now) c.places-places.ensures c.all.ensures

@@ -1,0 +1,5 @@
+use Rattle.demand.proofs.Copies.{stop_is}
+use Rattle.demand.proofs.local.Local.stop.Goals as goal
+
+pub returns : goal.returns
+returns c = stop_is c.args.self.now.places c.args.self.now.stops c.args.v c.requires

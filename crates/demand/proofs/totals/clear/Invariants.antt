@@ -1,6 +1,0 @@
-use Rattle.std.proofs.Common.{◌≡◌, ℕ, ◌<◌, get_or}
-use Rattle.demand.specs.Table.{Spared}
-use Rattle.demand.proofs.totals.clear.Given as goal
-
-abbrev pub invariant-loop-t : goal.invariant-loop-t
-invariant-loop-t l = ((k : ℕ) → k < l.t → get_or l.totals k 0 ≡ 0) × Spared l.t l.initial.totals l.totals
