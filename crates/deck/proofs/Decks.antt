@@ -1,11 +1,9 @@
 -- What a change in one of a deck's tables means for the deck.
-use Rattle.std.proofs.Common.{◌≡◌, ℕ, true, List, get_or, set, slice_get, is_some, Some, None, Ok, Err, Option, Result, sym, refl, ap, ◌∙◌, subst, MatchResult}
+use Rattle.std.proofs.Common.{◌≡◌, ℕ, true, List, get_or, is_some, Some, None, Ok, Err, Option, Result, sym, refl, ap, ◌∙◌, subst, MatchResult}
 use mathlib.Core.Bool.{Bool-set}
 use Rattle.std.proofs.lemmas.Bool.{or_left, or_right}
 use Rattle.refusal.specs.declared.Refusal.{Refusal}
 use Rattle.refusal.specs.Numbers.{refusal_in}
-use Rattle.table.specs.Ordered.{find_by, change_by}
-use Rattle.table.specs.Found.{First}
 use Rattle.engine.specs.Limits.{every}
 use Rattle.engine.specs.Views.{numbers_of}
 use Rattle.deck.specs.declared.cards.CrankCard.{CrankCard}

@@ -1,5 +1,5 @@
 -- What a search in a table, and an item changed in it, mean for the list that is seen of it.
-use Rattle.std.proofs.Common.{◌≡◌, ℕ, ◌<◌, ◌≤◌, true, List, map, length, get_or, set, is_some, Some, Ok, Err, Result, sym, refl, ap, ◌∙◌, subst, arith, MatchResult}
+use Rattle.std.proofs.Common.{◌≡◌, ℕ, ◌<◌, ◌≤◌, true, List, map, length, get_or, set, is_some, Some, Ok, Err, Result, sym, ap, ◌∙◌, subst, arith, MatchResult}
 use native.Mathlib.Bridge.{le_prop}
 use Rattle.std.proofs.Math.Nat.{ℕ_set}
 use Rattle.std.proofs.lemmas.List.{length-map, length-take-le, set-get_or}

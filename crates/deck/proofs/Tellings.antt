@@ -10,7 +10,7 @@ use Rattle.demand.specs.declared.walk.ToldJob.{ToldJob}
 use Rattle.deck.specs.declared.cards.CrankCard.{CrankCard}
 use Rattle.deck.specs.declared.cards.TimedCard.{TimedCard}
 use Rattle.deck.specs.declared.deck.Deck.{Deck}
-use Rattle.deck.specs.Tables.{crank_of, clock_of, cranks_in, clocks_in}
+use Rattle.deck.specs.Tables.{crank_of, clock_of}
 use Rattle.deck.specs.Cards.{Cards, cards_of}
 use Rattle.deck.specs.Calls.{crank_at, clock_at, in_use}
 use Rattle.deck.specs.Found.{AtCrank, AtTimed}

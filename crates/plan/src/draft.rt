@@ -65,21 +65,8 @@ impl Draft {
         ensures done { MatchResult result (λ _. stands self.new ≡ changed (with_crank (cards_of self.old.deck) (crank_given number share parts.entry))) (λ _. self.new ≡ self.old) }
         ensures history { DraftCarries (stands self.old) (calls.changing (calls.add_engine_card (crank_given number share parts.entry)) result) (stands self.new) }
     {
-        // apart, since nothing is inferred of a closure that holds a struct with references
-        let CardParts {
-            angle,
-            modes,
-            bands,
-        } = parts;
-        self.change(|deck| deck.add_engine_card(
-            number,
-            share,
-            CardParts {
-                angle,
-                modes,
-                bands,
-            },
-        ))
+        // field by field, since nothing is inferred of a closure that holds a struct with references
+        self.change(|deck| deck.add_engine_card(number, share, CardParts { ..parts }))
     }
 
     // Puts in a timed card.

@@ -16,31 +16,17 @@ invariant_of-self g c =
           (kept_judged deck (g.G.Task.graph guest) c.args.horizon (g.met.G.Task.lawful guest) c.in_ok-verdict.verdict told.judged.says);
     }
 
-pub returns-in_err-verdict : goal.returns-in_err-verdict
-returns-in_err-verdict g c =
+pub returns-in_err-verdict-clause-history : goal.returns-in_err-verdict-clause-history
+returns-in_err-verdict-clause-history g c =
     let draft = c.args.self.now in
     let guest = c.args.guest.now in
-    let told = c.in_err-verdict.ensures in
     let p = err_from_is_err_and c.from_residual.result c.from_residual.ensures.1 in
-    rw (p.1, p.2) (record {
-      refusal = told.refusal;
-      judged = told.judged;
-      runs = tt;
-      marked = refl;
-      history = judge_carries (stands draft) (stands draft) (g.G.Task.graph guest) (g.met.G.Task.lawful guest) c.args.horizon _ _ (Err _) told.refusal refl;
-    })
+    rw (p.1, p.2) (judge_carries (stands draft) (stands draft) (g.G.Task.graph guest) (g.met.G.Task.lawful guest) c.args.horizon _ _ (Err _) c.in_err-verdict.ensures.refusal refl)
 
-pub returns : goal.returns
-returns g c =
+pub returns-clause-history : goal.returns-clause-history
+returns-clause-history g c =
     let draft = c.args.self.now in
     let guest = c.args.guest.now in
     let told = c.in_ok-verdict.ensures in
-    record {
-      refusal = told.refusal;
-      judged = told.judged;
-      runs = told.runs;
-      marked = (refl, c.mark-self.ensures);
-      history =
-          judge_carries (stands draft) _ (g.G.Task.graph guest) (g.met.G.Task.lawful guest) c.args.horizon _ _ (Ok c.in_ok-verdict.verdict) told.refusal
-          (told.judged.says, ap (λ m. record { cards = cards_of draft.deck; mark = m }) c.mark-self.ensures);
-    }
+    judge_carries (stands draft) _ (g.G.Task.graph guest) (g.met.G.Task.lawful guest) c.args.horizon _ _ (Ok c.in_ok-verdict.verdict) told.refusal
+    (told.judged.says, ap (λ m. record { cards = cards_of draft.deck; mark = m }) c.mark-self.ensures)

@@ -3,7 +3,5 @@ use Rattle.plan.specs.Standing.{stands}
 use Rattle.plan.proofs.Carried.{mark_carries}
 use Rattle.plan.proofs.drafted.Draft.mark.Goals as goal
 
-pub returns : goal.returns
-returns c =
-    let draft = c.args.self.now in
-    record { value = refl; history = mark_carries false (stands draft) draft.mark refl }
+pub returns-clause-history : goal.returns-clause-history
+returns-clause-history c = mark_carries false (stands c.args.self.now) c.args.self.now.mark refl

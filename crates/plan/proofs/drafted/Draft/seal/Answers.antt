@@ -3,5 +3,5 @@ use Rattle.plan.specs.Standing.{stands}
 use Rattle.plan.proofs.Carried.{seal_carries}
 use Rattle.plan.proofs.drafted.Draft.seal.Goals as goal
 
-pub returns : goal.returns
-returns c = record { same = refl; history = seal_carries (stands c.args.self) _ refl }
+pub returns-clause-history : goal.returns-clause-history
+returns-clause-history c = seal_carries (stands c.args.self) _ refl

@@ -3,13 +3,6 @@ use Rattle.plan.specs.Standing.{sealed_stands}
 use Rattle.plan.proofs.Carried.{tell_carries}
 use Rattle.plan.proofs.sealed.Sealed.tell.Goals as goal
 
-pub returns : goal.returns
-returns g c =
-    let told = c.tell.ensures in
-    record {
-      refusal = told.refusal;
-      told = told.told;
-      spare = told.spare;
-      history =
-          tell_carries true (sealed_stands c.args.self.now) (g.G.Task.graph c.args.guest.now) c.args.number c.args.window (length c.args.work.now) c.args.jobs.now _ _ c.tell.result told.refusal told.told;
-    }
+pub returns-clause-history : goal.returns-clause-history
+returns-clause-history g c =
+    tell_carries true (sealed_stands c.args.self.now) (g.G.Task.graph c.args.guest.now) c.args.number c.args.window (length c.args.work.now) c.args.jobs.now _ _ c.tell.result c.tell.ensures.refusal c.tell.ensures.told
