@@ -157,10 +157,10 @@ fn cast(
     work: &mut [u32],
     jobs: &mut [ToldJob],
 ) -> anyhow::Result<()> {
-    let told = plan.tell(&Empty, 7, 30, work, jobs);
-    print_told(rt, 7, 30, told, jobs)?;
-    let told = plan.tell(&Empty, 8, 30, work, jobs);
-    print_told(rt, 8, 30, told, jobs)?;
+    for number in [7, 8] {
+        let told = plan.tell(&Empty, number, 30, work, jobs);
+        print_told(rt, number, 30, told, jobs)?;
+    }
     println!(rt; "mark: {}", plan.mark())?;
     Ok(())
 }
