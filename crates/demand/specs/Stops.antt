@@ -8,10 +8,11 @@ use Rattle.demand.specs.declared.local.Stop.{Stop}
 abbrev pub in_copy : ℕ → ℕ → Bool
 in_copy places p = nat_le 1 p && nat_le p places
 
--- place p stands at p - 1, and its gap to q at q - 1
+-- what stands where there is no place
 abbrev pub no_stop : Stop
 no_stop = record { cost = 0; deadline = 0; gaps = [] }
 
+-- place p stands at p - 1, and its gap to q at q - 1
 abbrev pub stop_at : List Stop → ℕ → Stop
 stop_at stops p = slice_index_or stops (p - 1) no_stop
 
@@ -22,6 +23,7 @@ number_on f places stops p = cond (in_copy places p) (f (stop_at stops p)) 0
 unfoldable pub gap_on : ℕ → List Stop → ℕ → ℕ → Option ℕ
 gap_on places stops p q = cond (in_copy places p && in_copy places q) (slice_index_or (stop_at stops p).gaps (q - 1) None) None
 
+-- the graph that so many of these stops stand for
 abbrev pub graph_on : ℕ → List Stop → Graph
 graph_on places stops = record {
   places = places;
