@@ -5,5 +5,6 @@ pub mod Found
 pub mod Judging
 pub mod Sums
 pub mod Telling
+pub mod Texts
 pub mod EveryRun
 pub mod Examples

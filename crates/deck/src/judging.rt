@@ -75,6 +75,7 @@ impl Deck {
     {
         check_lent(horizon, work.len(), totals.len())?;
         clear(totals, horizon);
+        // none of these is refused: what is lent has been checked
         add_cards(self.cranks.as_slice(), &self.engine, horizon, work, totals)?;
         add_cards(self.timeds.as_slice(), &self.engine, horizon, work, totals)?;
         add(guest, horizon, work, totals)?;

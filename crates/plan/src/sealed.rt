@@ -4,7 +4,8 @@ ghost use Rattle.deck.specs.EveryRun.{FitsEveryRunAlone};
 
 use deck::deck::Deck;
 
-// The engine, cards and mark of the draft that was sealed. No call changes them.
+// The engine, cards and mark of the draft that was sealed. No call changes them. One struct inside
+// Draft and Sealed is no plainer: each clause and method of both would go through it.
 #[derive(Drop)]
 pub struct Sealed {
     pub(crate) deck: Deck,
