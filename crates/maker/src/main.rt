@@ -25,19 +25,6 @@ const NO_JOB: ToldJob = ToldJob {
     due: 0,
 };
 
-// A verdict as text.
-#[derive(Drop)]
-struct Judged(Verdict);
-
-impl fmt::Display for Judged {
-    fn fmt<W: fmt::Write>(&self, f: &mut fmt::Formatter<W>) -> fmt::Result {
-        match self.0 {
-            Verdict::Fits { horizon } => write!(f, "fits {horizon}"),
-            Verdict::Over { at, total } => write!(f, "over {at} {total}"),
-        }
-    }
-}
-
 // What tell answered, as text.
 #[derive(Drop)]
 struct Walked(Told);
@@ -66,7 +53,7 @@ fn print_change(rt: &HostRuntime, call: &str, answer: Result<(), Refusal>) -> an
 }
 
 fn print_verdict(rt: &HostRuntime, answer: Result<Verdict, Refusal>) -> anyhow::Result<()> {
-    print_answer(rt, "judge", answer.map(Judged))
+    print_answer(rt, "judge", answer)
 }
 
 fn print_told(

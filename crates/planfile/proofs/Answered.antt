@@ -47,7 +47,7 @@ faulted_filed : (at : ℕ) (k : Kind) (rest : List ℕ) (read : Result (Option R
 faulted_filed at k rest (Ok o) (Ok r) e h = cc
 faulted_filed at k rest (Ok o) (Err f) e h = cc
 faulted_filed at k rest (Err x) (Ok r) e h = cc
-faulted_filed at k rest (Err x) (Err f) e h = let same : f ≡ record { kind = k; card = 0; refusal = x } = cc in rw (same, e)
+faulted_filed at k rest (Err x) (Err f) e h = let same : f ≡ record { kind = k; card = None; refusal = x } = cc in rw (same, e)
 
 pub filed_ok : (at : ℕ) (got : Result Record RecordFault) (r : Record) → Ok r ≡ placed at got → filed at got ≡ Ok (Some r)
 filed_ok at (Ok x) r e = cc

@@ -25,7 +25,7 @@ file_fault i = record { at = i.context; kind = Some i.fault.kind; card = i.fault
 
 -- a byte at a place that stands for no kind, as the file's fault
 abbrev pub kind_fault : In ℕ UnknownKind → FileFault
-kind_fault i = record { at = i.context; kind = None; card = 0; refusal = refusals.UnknownKind }
+kind_fault i = record { at = i.context; kind = None; card = None; refusal = refusals.UnknownKind }
 
 -- an answer with one record, as an answer with the next record
 abbrev pub one : {F : Type 0} → Result Record F → Result (Option Record) F
@@ -35,4 +35,4 @@ one (Err f) = Err f
 -- what is read of a known kind, its refusal as the record's fault
 abbrev pub in_record : Kind → Result (Option Record) Refusal → Result (Option Record) RecordFault
 in_record k (Ok o) = Ok o
-in_record k (Err refusal) = Err (record { kind = k; card = 0; refusal = refusal })
+in_record k (Err refusal) = Err (record { kind = k; card = None; refusal = refusal })

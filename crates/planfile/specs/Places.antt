@@ -17,7 +17,7 @@ kind_at (b ∷ rest) = kind_of b
 -- what is read at a place where these bytes are left, its refusal as the file's fault there
 abbrev pub faulted : ℕ → List ℕ → Result (Option Record) Refusal → Result (Option Record) FileFault
 faulted at rest (Ok o) = Ok o
-faulted at rest (Err refusal) = Err (record { at = at; kind = kind_at rest; card = 0; refusal = refusal })
+faulted at rest (Err refusal) = Err (record { at = at; kind = kind_at rest; card = None; refusal = refusal })
 
 -- what is read at a place of these bytes
 abbrev pub read_at : Open → ℕ → List ℕ → Result (Option Record) FileFault

@@ -10,7 +10,7 @@ use refusal::Refusal;
 #[derive(Clone, Copy, PartialEq, Eq, Debug)]
 pub struct RecordFault {
     pub kind: Kind,
-    pub card: u8,
+    pub card: Option<u8>,
     pub refusal: Refusal,
 }
 
@@ -19,7 +19,7 @@ pub struct RecordFault {
 pub struct FileFault {
     pub at: usize,
     pub kind: Option<Kind>,
-    pub card: u8,
+    pub card: Option<u8>,
     pub refusal: Refusal,
 }
 
@@ -69,7 +69,7 @@ impl From<In<usize, UnknownKind>> for FileFault {
         FileFault {
             at: i.context,
             kind: None,
-            card: 0,
+            card: None,
             refusal: Refusal::UnknownKind,
         }
     }

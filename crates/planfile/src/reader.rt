@@ -72,7 +72,7 @@ impl Open {
     fn read(self, kind: Kind, body: &[u8]) -> Result<Record, RecordFault>
         ensures { one result ≡ in_record kind (known self kind body.now) }
     {
-        Ok(within(Head { kind, card: 0 }, self.whole_in_turn(kind, body))?)
+        Ok(within(Head { kind, card: None }, self.whole_in_turn(kind, body))?)
     }
 
     // The record of a known kind at the front of the bytes, if it is whole and in turn.

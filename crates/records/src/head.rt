@@ -4,11 +4,11 @@ ghost use Rattle.records.specs.Heads.{head_of};
 
 use crate::record::{Kind, Record};
 
-// The kind of a record, and its card's number, 0 where it names none.
+// The kind of a record, and its card's number, if it names one.
 #[derive(Clone, Copy, PartialEq, Eq, Debug)]
 pub struct Head {
     pub kind: Kind,
-    pub card: u8,
+    pub card: Option<u8>,
 }
 
 impl Record {
@@ -17,15 +17,15 @@ impl Record {
         ensures { result ≡ head_of self }
     {
         let (kind, card) = match self {
-            Record::Engine { .. } => (Kind::Engine, 0),
-            Record::Card { number, .. } => (Kind::Card, number),
-            Record::Mode { .. } => (Kind::Mode, 0),
-            Record::Band { .. } => (Kind::Band, 0),
-            Record::Timed { number, .. } => (Kind::Timed, number),
-            Record::Recost { number, .. } => (Kind::Recost, number),
-            Record::Cut { number, .. } => (Kind::Cut, number),
-            Record::Drop { number } => (Kind::Drop, number),
-            Record::Judge { .. } => (Kind::Judge, 0),
+            Record::Engine { .. } => (Kind::Engine, None),
+            Record::Card { number, .. } => (Kind::Card, Some(number)),
+            Record::Mode { .. } => (Kind::Mode, None),
+            Record::Band { .. } => (Kind::Band, None),
+            Record::Timed { number, .. } => (Kind::Timed, Some(number)),
+            Record::Recost { number, .. } => (Kind::Recost, Some(number)),
+            Record::Cut { number, .. } => (Kind::Cut, Some(number)),
+            Record::Drop { number } => (Kind::Drop, Some(number)),
+            Record::Judge { .. } => (Kind::Judge, None),
         };
         Head { kind, card }
     }

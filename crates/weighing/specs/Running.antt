@@ -82,24 +82,24 @@ clock_said n period deadline cost = record { number = n; period = period; deadli
 -- stands open after it. The last band of a card puts the card in.
 abbrev pub Takes : Standing → Pending → Open → Record → Standing → Answer → Type 0
 Takes s p o (records.Engine m M A D E) s' a =
-    Called (record { kind = kinds.Engine; card = 0 }) s (engine_refused s.cards (engine_said m M A D E)) (with_engine s.cards (engine_said m M A D E)) s' a
+    Called (record { kind = kinds.Engine; card = None }) s (engine_refused s.cards (engine_said m M A D E)) (with_engine s.cards (engine_said m M A D E)) s' a
 Takes s p o (records.Card n angle share modes bands) s' a =
-    Quiet (record { kind = kinds.Card; card = n }) s (counts_refused modes bands) s' a
-Takes s p o (records.Mode lower cost) s' a = Quiet (record { kind = kinds.Mode; card = 0 }) s None s' a
+    Quiet (record { kind = kinds.Card; card = Some n }) s (counts_refused modes bands) s' a
+Takes s p o (records.Mode lower cost) s' a = Quiet (record { kind = kinds.Mode; card = None }) s None s' a
 Takes s p o (records.Band lower) s' a =
     MatchBool (card_whole o)
-    (Called (record { kind = kinds.Card; card = p.number }) s (crank_refused s.cards (crank_said p)) (with_crank s.cards (crank_said p)) s' a)
-    (Quiet (record { kind = kinds.Band; card = 0 }) s None s' a)
+    (Called (record { kind = kinds.Card; card = Some p.number }) s (crank_refused s.cards (crank_said p)) (with_crank s.cards (crank_said p)) s' a)
+    (Quiet (record { kind = kinds.Band; card = None }) s None s' a)
 Takes s p o (records.Timed n period deadline cost) s' a =
-    Called (record { kind = kinds.Timed; card = n }) s (clock_refused s.cards (clock_said n period deadline cost)) (with_clock s.cards (clock_said n period deadline cost)) s' a
+    Called (record { kind = kinds.Timed; card = Some n }) s (clock_refused s.cards (clock_said n period deadline cost)) (with_clock s.cards (clock_said n period deadline cost)) s' a
 Takes s p o (records.Recost n index cost) s' a =
-    Called (record { kind = kinds.Recost; card = n }) s (recost_refused s.cards n index cost) (with_recost s.cards n index cost) s' a
+    Called (record { kind = kinds.Recost; card = Some n }) s (recost_refused s.cards n index cost) (with_recost s.cards n index cost) s' a
 Takes s p o (records.Cut n speed) s' a =
-    Called (record { kind = kinds.Cut; card = n }) s (cut_refused s.cards n speed) (with_cut s.cards n speed) s' a
+    Called (record { kind = kinds.Cut; card = Some n }) s (cut_refused s.cards n speed) (with_cut s.cards n speed) s' a
 Takes s p o (records.Drop n) s' a =
-    Called (record { kind = kinds.Drop; card = n }) s (drop_refused s.cards n) (with_drop s.cards n) s' a
+    Called (record { kind = kinds.Drop; card = Some n }) s (drop_refused s.cards n) (with_drop s.cards n) s' a
 Takes s p o (records.Judge horizon) s' a =
-    Judging (record { kind = kinds.Judge; card = 0 }) s horizon (judge_refused horizon) s' a
+    Judging (record { kind = kinds.Judge; card = None }) s horizon (judge_refused horizon) s' a
 
 -- the byte place of a fault: a card's last band is refused at the card's own record
 abbrev pub fault_place : Pending → ℕ → Record → ℕ

@@ -51,7 +51,7 @@ impl Scales {
     {
         let head = Head {
             kind: Kind::Card,
-            card: card.number,
+            card: Some(card.number),
         };
         let parts = CardParts {
             angle: card.angle,
