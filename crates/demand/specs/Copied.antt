@@ -4,4 +4,4 @@ use Rattle.demand.specs.declared.local.Local.{Local}
 use Rattle.demand.specs.Stops.{graph_on}
 
 abbrev pub graph_of : Local → Graph
-graph_of c = graph_on c.places c.stops
+graph_of c = graph_on c.stops.used c.stops.table

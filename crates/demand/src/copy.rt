@@ -5,6 +5,7 @@ ghost use Rattle.demand.specs.Stops.{StopOf, no_stop};
 
 use crate::local::{Local, ROW, Stop};
 use std::array;
+use table::few::Few;
 use task::interface::Task;
 
 impl Stop {
@@ -51,16 +52,18 @@ impl Local {
     {
         let places = task.places();
         Local {
-            places,
-            stops: Stop::all(task, places),
+            stops: Few {
+                table: Stop::all(task, places),
+                used: places,
+            },
         }
     }
 
     // The place at v.
     pub(crate) fn stop(&self, v: usize) -> &Stop
-        requires { v < self.now.places }
-        ensures { StopOf (graph_of self.now) self.now.places (v + 1) result.now }
+        requires { v < self.now.stops.used }
+        ensures { StopOf (graph_of self.now) self.now.stops.used (v + 1) result.now }
     {
-        &self.stops[v]
+        &self.stops.table[v]
     }
 }

@@ -13,7 +13,7 @@ impl Local {
         requires cells { t * 24 ≤ length before.now }
         requires full { Rows (graph_of self.now) before.now t 0 }
         requires room { 24 ≤ length row.old }
-        ensures row { (v : ℕ) → v < self.now.places → Best (graph_of self.now) t (v + 1) (slice_index row.new v) }
+        ensures row { (v : ℕ) → v < self.now.stops.used → Best (graph_of self.now) t (v + 1) (slice_index row.new v) }
         ensures spare { Spared 24 row.old row.new }
     {
         let filled = Filled {
@@ -21,7 +21,7 @@ impl Local {
             work: before,
             rows: t,
         };
-        for (v, cell) in row[..self.places].iter_mut().enumerate() {
+        for (v, cell) in row[..self.stops.used].iter_mut().enumerate() {
             *cell = filled.best(v);
         }
     }

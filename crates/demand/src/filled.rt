@@ -39,14 +39,14 @@ impl Filled<'_> {
 
     // The greatest demand of a walk that this place can go on with, inside the next row's t.
     fn rest_after(&self, v: usize) -> u32
-        requires place { v < self.now.local.now.places }
+        requires place { v < self.now.local.now.stops.used }
         requires full { Full self.now }
-        ensures { Rest (graph_of self.now.local.now) self.now.rows (v + 1) self.now.local.now.places result }
+        ensures { Rest (graph_of self.now.local.now) self.now.rows (v + 1) self.now.local.now.stops.used result }
     {
         let t = self.rows;
         let stop = self.local.stop(v);
         let mut rest: u32 = 0;
-        for (u, gap) in stop.gaps[..self.local.places].iter().enumerate() {
+        for (u, gap) in stop.gaps[..self.local.stops.used].iter().enumerate() {
             if let Some(gap) = *gap
                 && gap <= t
             {
@@ -58,7 +58,7 @@ impl Filled<'_> {
 
     // The cell of the next row at this place.
     pub(crate) fn best(&self, v: usize) -> u32
-        requires place { v < self.now.local.now.places }
+        requires place { v < self.now.local.now.stops.used }
         requires full { Full self.now }
         ensures { Best (graph_of self.now.local.now) self.now.rows (v + 1) result }
     {
@@ -72,11 +72,11 @@ impl Filled<'_> {
     // The cells of row t.
     fn row(&self, t: u32) -> &[u32]
         requires { t < self.now.rows }
-        ensures count { length result.now ≡ self.now.local.now.places }
-        ensures cells { (v : ℕ) → v < self.now.local.now.places → slice_index result.now v ≡ cell_at self.now.work.now t v }
+        ensures count { length result.now ≡ self.now.local.now.stops.used }
+        ensures cells { (v : ℕ) → v < self.now.local.now.stops.used → slice_index result.now v ≡ cell_at self.now.work.now t v }
     {
         let first = t as usize * ROW;
-        &self.work[first..first + self.local.places]
+        &self.work[first..first + self.local.stops.used]
     }
 
     // The greatest cell of row t.
@@ -100,7 +100,7 @@ impl Filled<'_> {
 
     // Where a greatest walk from this place, with so much time left, goes on, and after what gap.
     pub(crate) fn next_place(&self, left: u32, v: usize) -> Option<(usize, u32)>
-        requires place { v < self.now.local.now.places }
+        requires place { v < self.now.local.now.stops.used }
         requires row { left < self.now.rows }
         requires full { Full self.now }
         requires starts { 1 ≤ cell_at self.now.work.now left v }
@@ -111,7 +111,7 @@ impl Filled<'_> {
         if rest == 0 {
             return None;
         }
-        for (u, gap) in stop.gaps[..self.local.places].iter().enumerate() {
+        for (u, gap) in stop.gaps[..self.local.stops.used].iter().enumerate() {
             if let Some(gap) = *gap
                 && gap <= left
                 && self.row(left - gap)[u] == rest

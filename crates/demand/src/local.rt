@@ -3,6 +3,8 @@ ghost use Rattle.std.specs.Prelude.{◌≤◌};
 ghost use Rattle.task.specs.Graph.{Lawful};
 ghost use Rattle.demand.specs.Stops.{graph_on, lawful_prop};
 
+use table::few::Few;
+
 // The most places that a task may have: the cells of a row of the worktable.
 pub(crate) const ROW: usize = 24;
 
@@ -17,8 +19,6 @@ pub(crate) struct Stop {
 // Place p stands at p - 1.
 #[derive(Drop)]
 pub(crate) struct Local {
-    // Project rule: the memory is fixed, so an array has its count beside it.
-    pub(crate) places: usize,
-    pub(crate) stops: [Stop; ROW],
-    ghost lawful: { Lawful (graph_on places stops) } by { lawful_prop (graph_on places stops) },
+    pub(crate) stops: Few<Stop, ROW>,
+    ghost lawful: { Lawful (graph_on stops.used stops.table) } by { lawful_prop (graph_on stops.used stops.table) },
 }

@@ -31,7 +31,7 @@ pub struct Told {
 impl Filled<'_> {
     // Writes the jobs of a greatest walk from this place, inside the window, and says how many there are.
     fn put_jobs(&self, window: u32, first: usize, jobs: &mut [ToldJob]) -> u32
-        requires place { first < self.now.local.now.places }
+        requires place { first < self.now.local.now.stops.used }
         requires row { window < self.now.rows }
         requires room { window ≤ length jobs.old }
         requires full { Full self.now }

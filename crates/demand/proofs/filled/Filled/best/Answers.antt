@@ -19,7 +19,7 @@ overflow_add-result c =
     omega (
       arith,
       c.stop-stop.ensures.cost,
-      rest_most (graph_of local) local.lawful c.args.self.now.rows (c.args.v + 1) local.places c.rest_after.result c.rest_after.ensures,
+      rest_most (graph_of local) local.lawful c.args.self.now.rows (c.args.v + 1) local.stops.used c.rest_after.result c.rest_after.ensures,
     )
 
 pub returns : goal.returns

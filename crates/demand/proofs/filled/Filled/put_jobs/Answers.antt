@@ -38,7 +38,7 @@ loop-u-preserved c =
       time = omega (arith, next.early, c.loop-u.invariant.time);
       starts = next.on;
       walked = subst (λ (job : ToldJob). Walked graph work window c.args.first (left - d) u (count + 1) (set jobs count job))
-          (sym (told_is graph local.places (window - left) v c.stop-stop.result.now c.stop-stop.ensures))
+          (sym (told_is graph local.stops.used (window - left) v c.stop-stop.result.now c.stop-stop.ensures))
           (walked_more graph work window c.args.first left v count u d jobs h most room c.loop-u.invariant.walked next);
       others = others_more jobs c.args.jobs.now count _ c.loop-u.invariant.others;
     }
@@ -58,5 +58,5 @@ returns-in-None c =
     let time = cell_left graph local.lawful work filled.rows left v c.requires.full (omega (arith, c.loop-u.invariant.time, c.requires.row)) h c.loop-u.invariant.starts in
     let room : count < length jobs = omega (arith, time.0, time.1, c.requires.room, c.loop-u.invariant.time, c.loop-u.auto.jobs) in
     subst (λ (job : ToldJob). WalkTold graph window c.args.jobs.now (set jobs count job) (count + 1) (cell_at work window c.args.first))
-    (sym (told_is graph local.places (window - left) v c.stop-stop.result.now c.stop-stop.ensures))
+    (sym (told_is graph local.stops.used (window - left) v c.stop-stop.result.now c.stop-stop.ensures))
     (walked_all graph work window c.args.first left v count jobs c.args.jobs.now h time.1 room c.loop-u.invariant.walked c.in-None.ensures c.loop-u.invariant.others)

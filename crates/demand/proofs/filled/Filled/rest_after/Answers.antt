@@ -15,8 +15,8 @@ loop-u-preserved c =
     let v = c.args.v in
     let u = c.loop-u.u in
     let rest = c.loop-u.rest in
-    let gaps = take local.places c.stop-stop.result.now.gaps in
-    let gap = sym (c.stop-stop.ensures.gaps u (omega arith)) ∙ sym (get_or-take local.places c.stop-stop.result.now.gaps u None (omega arith)) in
+    let gaps = take local.stops.used c.stop-stop.result.now.gaps in
+    let gap = sym (c.stop-stop.ensures.gaps u (omega arith)) ∙ sym (get_or-take local.stops.used c.stop-stop.result.now.gaps u None (omega arith)) in
     elim c.match-gap.branch [
       | in-Some+then-gap-t w ↦
           let d = w.in-Some.gap in
