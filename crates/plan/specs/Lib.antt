@@ -1,3 +1,4 @@
+pub mod Marked
 pub mod Standing
 pub mod History
 pub mod EveryHistory

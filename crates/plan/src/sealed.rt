@@ -1,6 +1,7 @@
 // A plan that is done: what is cast.
 ghost use Rattle.deck.specs.Cards.{cards_of};
 ghost use Rattle.deck.specs.EveryRun.{FitsEveryRunAlone};
+ghost use Rattle.plan.specs.Marked.{fits_prop};
 
 use deck::deck::Deck;
 
@@ -10,5 +11,5 @@ use deck::deck::Deck;
 pub struct Sealed {
     pub(crate) deck: Deck,
     pub(crate) mark: u32,
-    ghost kept: { ∥ FitsEveryRunAlone (cards_of deck) mark ∥₁ },
+    ghost kept: { FitsEveryRunAlone (cards_of deck) mark } by { fits_prop (cards_of deck) mark },
 }
