@@ -54,11 +54,12 @@ cranks_sound e (x ∷ xs) h =
 clocks_sound : (xs : List TimedCard) → every clock_ok (map clock_of xs) ≡ true
 clocks_sound [] = refl
 clocks_sound (x ∷ xs) =
-    let t = x.timed in
-    let few : 1 ≤ t.period = omega (arith, t.deadline_least, t.deadline_most) in
+    let timed = x.timed in
+    let t = timed.parts in
+    let few : 1 ≤ t.period = omega (arith, timed.deadline_least, timed.deadline_most) in
     and_from _ _
-    (and_from _ _ (between_from 1 100000000 t.period few t.period_most)
-    (and_from _ _ (between_from 1 t.period t.deadline t.deadline_least t.deadline_most) (between_from 1 100000 t.cost t.cost_least t.cost_most)))
+    (and_from _ _ (between_from 1 100000000 t.period few timed.period_most)
+    (and_from _ _ (between_from 1 t.period t.deadline timed.deadline_least timed.deadline_most) (between_from 1 100000 t.cost timed.cost_least timed.cost_most)))
     (clocks_sound xs)
 
 pub deck_sound : (d : Deck) → Sound (cards_of d)

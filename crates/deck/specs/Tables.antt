@@ -28,9 +28,9 @@ crank_of c = record { number = c.number; share = c.share.thousandths; parts = pa
 abbrev pub clock_of : TimedCard → Clock
 clock_of c = record {
   number = c.number;
-  period = c.timed.period;
-  deadline = c.timed.deadline;
-  cost = c.timed.cost;
+  period = c.timed.parts.period;
+  deadline = c.timed.parts.deadline;
+  cost = c.timed.parts.cost;
 }
 
 -- cards as a caller gives them

@@ -62,10 +62,10 @@ impl Deck {
         ensures refusal { refusal_in result ≡ crank_refused (cards_of self.old) (crank_given number share parts.entry) }
         ensures done { MatchResult result (λ _. cards_of self.new ≡ with_crank (cards_of self.old) (crank_given number share parts.entry)) (λ _. self.new ≡ self.old) }
     {
-        if number == 0 || self.uses(number) {
+        if self.is_taken(number) {
             return Err(Refusal::NumberTaken);
         }
-        if self.cranks.len() >= 4 {
+        if self.cranks.is_full() {
             return Err(Refusal::NoPlace);
         }
         let card = Card::new(&self.engine, parts)?;
@@ -83,10 +83,10 @@ impl Deck {
         ensures refusal { refusal_in result ≡ clock_refused (cards_of self.old) (clock_given number parts) }
         ensures done { MatchResult result (λ _. cards_of self.new ≡ with_clock (cards_of self.old) (clock_given number parts)) (λ _. self.new ≡ self.old) }
     {
-        if number == 0 || self.uses(number) {
+        if self.is_taken(number) {
             return Err(Refusal::NumberTaken);
         }
-        if self.timeds.len() >= 16 {
+        if self.timeds.is_full() {
             return Err(Refusal::NoPlace);
         }
         let timed = Timed::new(parts)?;

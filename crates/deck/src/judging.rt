@@ -61,7 +61,9 @@ impl Deck {
     // Judges the cards with a guest: the summed demand of all tasks at every t up to the horizon,
     // and whether one of these sums exceeds its t. "Fits" holds for every run: whatever drives
     // the engine makes, whatever lawful timings the timed cards keep, whatever jobs the guest may
-    // release, no window up to the horizon demands more than its length.
+    // release, no window up to the horizon demands more than its length. Lent memory comes as
+    // parameters: in a struct with two `&mut` it would cost each contract a clause for each, that it
+    // is still the same reference.
     pub fn judge<G: Task>(
         &self,
         guest: &G,

@@ -2,8 +2,8 @@
 // Decks: an engine and its cards, changed, judged, and asked for the walks behind a verdict.
 pub mod calls;
 pub mod cards;
+pub mod changes;
 pub mod deck;
-pub mod held;
 pub mod judging;
 pub mod places;
 pub mod rungs;

@@ -1,5 +1,5 @@
 // How a card is found in a deck, put in, changed and taken out.
-ghost use Rattle.std.specs.Prelude.{◌≡◌, ◌<◌, true, false, not, MatchResult};
+ghost use Rattle.std.specs.Prelude.{◌≡◌, ◌<◌, true, false, not, ◌||◌, ◌==◌, MatchResult};
 ghost use Rattle.refusal.specs.Numbers.{refusal_in};
 ghost use Rattle.engine.specs.Views.{numbers_of};
 ghost use Rattle.deck.specs.Tables.{right_card, crank_of, clock_of};
@@ -30,6 +30,13 @@ impl Deck {
         ensures { result ≡ in_use (cards_of self.now) number }
     {
         self.place(number).is_some()
+    }
+
+    // Whether no new card can have this number.
+    pub(crate) fn is_taken(&self, number: u8) -> bool
+        ensures { result ≡ (number == 0 || in_use (cards_of self.now) number) }
+    {
+        number == 0 || self.uses(number)
     }
 
     // Whether no card stands in the deck.
@@ -71,6 +78,7 @@ impl Deck {
     {
         match self.place(number) {
             Some(Place::Crank(at)) => {
+                // first a slice: no element is lent out of an array in a struct with an invariant
                 let cranks = &mut self.cranks.table[..];
                 cranks[at].recost(index, cost)
             }

@@ -14,7 +14,7 @@ use task::interface::Task;
 
 impl Deck {
     // Tells a walk that has the greatest demand of the window, of the card of this number or, for
-    // 0, of the guest. The worktable is written over.
+    // 0, of the guest. The worktable is written over. Lent memory comes as parameters, as in judge.
     pub fn tell<G: Task>(
         &self,
         guest: &G,
@@ -27,6 +27,7 @@ impl Deck {
         ensures told { MatchResult result (λ x. Tells (task_at (cards_of self.now) (G.Task.graph guest.now) number) window jobs.old jobs.new x.count x.demand) (λ _. (work.new ≡ work.old) × (jobs.new ≡ jobs.old)) }
         ensures spare { Spared (24 * (window + 1)) work.old work.new }
     {
+        // 0 is the number by which callers ask for the guest: no card has it.
         if number == 0 {
             return greatest_walk(guest, window, work, jobs);
         }

@@ -1,9 +1,11 @@
-// The worktable: row t, column v holds the greatest demand of a walk that starts at place v + 1 and is inside t.
+// The worktable: row t, column v holds the greatest demand of a walk that starts at place v + 1 and
+// is inside t.
 ghost use Rattle.std.specs.Prelude.{◌≡◌, ◌*◌, ◌≤◌, ◌&&◌, ◌==◌, length, position, nat_lt, All, Contains};
 
 use crate::local::{Local, ROW};
 
-// The first rows of a worktable, which are full.
+// A worktable and how many of its rows are filled. The number stands beside the cells, since they
+// are lent, and may be more than the rows.
 #[derive(Drop)]
 pub(crate) struct Filled<'a> {
     pub(crate) local: &'a Local,
@@ -28,8 +30,9 @@ fn place_of(cells: &[u32], greatest: u32) -> Option<usize>
     cells.iter().position(|cell| 0 < *cell && *cell == greatest)
 }
 
-// `Full` stays a clause of the methods: as a ghost field it would be a fact with at most one proof, and the walk that it
-// names could not be taken out of such a fact for `Greatest`.
+// `Full` stays a clause of the methods: as a ghost field it would be a fact with at most one proof,
+// and the walk that it names could not be taken out of such a fact for `Greatest`. That a place or a
+// row is in bounds is said of the number passed: a type for it would have to hold the table.
 impl Filled<'_> {
     ghost use Rattle.std.specs.Prelude.{◌≡◌, ℕ, ◌+◌, ◌*◌, ◌<◌, ◌≤◌, length, slice_index, MatchOption};
     ghost use Rattle.task.specs.Walks.{Greatest};

@@ -21,7 +21,8 @@ pub struct ToldJob {
     pub due: u32,
 }
 
-// How many jobs were told, and their demand.
+// How many jobs were told, and their demand: none and 0 where there is no walk, so that demands add
+// up as they are. The jobs themselves stand in the memory that was lent for them.
 #[derive(Clone, Copy, PartialEq, Eq, Debug)]
 pub struct Told {
     pub count: u32,
@@ -29,7 +30,8 @@ pub struct Told {
 }
 
 impl Filled<'_> {
-    // Writes the jobs of a greatest walk from this place, inside the window, and says how many there are.
+    // Writes the jobs of a greatest walk from this place, inside the window, and says how many there
+    // are.
     fn put_jobs(&self, window: u32, first: usize, jobs: &mut [ToldJob]) -> u32
         requires place { first < self.now.local.now.stops.used }
         requires row { window < self.now.rows }
@@ -41,7 +43,8 @@ impl Filled<'_> {
         let mut v = first;
         let mut left = window;
         let mut count: u32 = 0;
-        // The walk ends before the list does, so a `for` over the jobs would be no plainer: its end is never reached.
+        // The walk ends before the list does, so a `for` over the jobs would be no plainer: its end is
+        // never reached, and would still need an answer.
         loop {
             let stop = self.local.stop(v);
             let release = window - left;

@@ -60,7 +60,7 @@ impl Card {
         ensures { result ≡ cut_wrong (numbers_of engine.now) (parts_of self.now) speed }
     {
         let inside = engine.least < speed && speed < engine.greatest;
-        !inside || self.has_band_at(speed) || self.bands.len() >= 24
+        !inside || self.has_band_at(speed) || self.bands.is_full()
     }
 
     // Splits at a speed the band that holds it.

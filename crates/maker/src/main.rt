@@ -43,7 +43,7 @@ fn print_answer<C: Display + Drop, T: Display + Drop>(
 ) -> anyhow::Result<()> {
     match answer {
         Ok(value) => println!(rt; "{call}: {value}")?,
-        Err(refusal) => println!(rt; "{call}: no {}", refusal.number())?,
+        Err(refusal) => println!(rt; "{call}: no {refusal}")?,
     }
     Ok(())
 }
@@ -158,13 +158,11 @@ fn main(rt: HostRuntime) -> anyhow::Result<()> {
     let mut jobs = [NO_JOB; JOBS];
     let mut plan = Draft::new();
     make(&rt, &mut plan)?;
-    let Ok(guest) = Timed::new(TimedParts {
+    let guest = Timed::new(TimedParts {
         period: 50,
         deadline: 25,
         cost: 5,
-    }) else {
-        return Ok(());
-    };
+    })?;
     let verdict = plan.judge(&guest, 200, &mut work, &mut totals);
     print_verdict(&rt, verdict)?;
     if let Ok(Verdict::Over { at, .. }) = verdict {

@@ -1,9 +1,11 @@
 -- What every draft keeps: up to its mark no window ever demands more than its length.
 use Rattle.std.proofs.Common.{◌≡◌, ℕ, sym, subst}
+use mathlib.Core.Logic.{∥∥₁_elim}
+use native.Mathlib.Bridge.{le_prop}
 use Rattle.task.specs.Graph.{Graph, Lawful}
 use Rattle.deck.specs.declared.deck.Deck.{Deck}
 use Rattle.deck.specs.declared.verdict.Verdict.{Verdict}
-use Rattle.deck.specs.Cards.{cards_of}
+use Rattle.deck.specs.Cards.{Cards, cards_of}
 use Rattle.deck.specs.Judging.{tasks, Says, mark_of}
 use Rattle.deck.specs.EveryRun.{FitsEveryRunAlone}
 use Rattle.deck.proofs.Sound.{deck_sound}
@@ -11,6 +13,10 @@ use Rattle.deck.proofs.Runs.{fits_nothing, judged_fits}
 
 abbrev pub Kept : Deck → ℕ → Type 0
 Kept d mark = FitsEveryRunAlone (cards_of d) mark
+
+-- what is known to hold for some proof or other holds
+pub kept_says : (s : Cards) (mark : ℕ) → ∥ FitsEveryRunAlone s mark ∥₁ → FitsEveryRunAlone s mark
+kept_says s mark h k o cranks clocks run a b below near = ∥∥₁_elim h le_prop (λ f. f k o cranks clocks run a b below near)
 
 -- after a change
 pub kept_none : (d : Deck) → Kept d 0

@@ -10,6 +10,7 @@ use deck::deck::Deck;
 #[derive(Drop)]
 pub struct Draft {
     pub(crate) deck: Deck,
+    // a plain number: 0 is a horizon like any other, up to which nothing is promised
     pub(crate) mark: u32,
     ghost kept: { FitsEveryRunAlone (cards_of deck) mark } by { fits_prop (cards_of deck) mark },
 }

@@ -6,7 +6,8 @@ ghost use Rattle.plan.specs.Marked.{fits_prop};
 use deck::deck::Deck;
 
 // The engine, cards and mark of the draft that was sealed. No call changes them. One struct inside
-// Draft and Sealed is no plainer: each clause and method of both would go through it.
+// Draft and Sealed is no plainer: each clause and method of both would go through it, and tell and
+// mark, which both have, say of their histories what differs.
 #[derive(Drop)]
 pub struct Sealed {
     pub(crate) deck: Deck,

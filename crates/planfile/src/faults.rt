@@ -6,7 +6,7 @@ use records::head::Head;
 use records::record::{Kind, UnknownKind};
 use refusal::Refusal;
 
-// A refusal of a record.
+// A refusal of a record. No In<Head, Refusal>: callers read a kind and a card, and no context.
 #[derive(Clone, Copy, PartialEq, Eq, Debug)]
 pub struct RecordFault {
     pub kind: Kind,

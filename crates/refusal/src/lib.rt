@@ -1,7 +1,10 @@
 #![tactic(auto)]
 // The refusals of every call, one number each.
-ghost use Rattle.std.specs.Prelude.{◌≡◌};
+ghost use Rattle.std.specs.Prelude.{◌≡◌, Some, decimal};
 ghost use Rattle.refusal.specs.Numbers.{number as numbered};
+
+use std::error::Error;
+use std::fmt;
 
 // Why a call, or the reading of a plan file, was refused, with the number by which users know it.
 #[derive(Clone, Copy, PartialEq, Eq, Debug)]
@@ -50,3 +53,14 @@ impl From<Refusal> for u8 {
         refusal.number()
     }
 }
+
+// A refusal is written as its number.
+impl fmt::Display for Refusal {
+    ghost output = { λ refusal. Some (decimal (numbered refusal)) };
+
+    fn fmt<W: fmt::Write>(&self, f: &mut fmt::Formatter<W>) -> fmt::Result {
+        write!(f, "{}", self.number())
+    }
+}
+
+impl Error for Refusal {}

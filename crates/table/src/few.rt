@@ -4,8 +4,9 @@ ghost use Rattle.std.specs.Prelude.{◌≡◌, ◌≤◌, length, ⊤};
 use crate::Keyed;
 use std::alloc::AllocError;
 
-// At most `N` items: the first `used` cells of a table. The count stands beside a table of fixed
-// length, and is no Vec, since a plan takes no memory of the heap.
+// At most `N` items: the first `used` cells of a table. A Vec would take memory of the heap, which
+// no call here may; the library's ArrayVec is not Copy, as cards and decks are, and says nothing of
+// the cells past its count.
 pub struct Few<T, const N: usize> {
     pub table: [T; N],
     pub used: usize,
@@ -25,6 +26,31 @@ impl<T: Copy, const N: usize> Clone for Few<T, N> {
 }
 
 impl<T: Copy, const N: usize> Copy for Few<T, N> {}
+
+impl<T, const N: usize> Few<T, N> {
+    ghost use Rattle.std.specs.Prelude.{nat_le};
+    ghost use Rattle.table.specs.Few.{items_of};
+
+    // How many items there are.
+    pub fn len(&self) -> usize
+        ensures { result ≡ length (items_of self.now) }
+    {
+        self.as_slice().len()
+    }
+
+    pub fn as_slice(&self) -> &[T]
+        ensures { result.now ≡ items_of self.now }
+    {
+        &self.table[..self.used]
+    }
+
+    // Whether there is no room for another item.
+    pub fn is_full(&self) -> bool
+        ensures { result ≡ nat_le N (length (items_of self.now)) }
+    {
+        self.used == N
+    }
+}
 
 impl<T: Copy, const N: usize> Few<T, N> {
     ghost use Rattle.std.specs.Prelude.{◌+◌, ◌<◌, [], take, drop};
@@ -52,19 +78,6 @@ impl<T: Copy, const N: usize> Few<T, N> {
         Few { table, used }
     }
 
-    // How many items there are.
-    pub fn len(&self) -> usize
-        ensures { result ≡ length (items_of self.now) }
-    {
-        self.as_slice().len()
-    }
-
-    pub fn as_slice(&self) -> &[T]
-        ensures { result.now ≡ items_of self.now }
-    {
-        &self.table[..self.used]
-    }
-
     // Takes the item at `at` out, and moves the later ones down by one. With no such item the table
     // stays as it is.
     pub fn remove(&mut self, at: usize)
@@ -74,38 +87,29 @@ impl<T: Copy, const N: usize> Few<T, N> {
     {
         if at < self.used {
             let cells = &mut self.table[..];
-            cells[at..self.used].rotate_left(1);
+            crate::remove(cells, self.used, at);
             self.used -= 1;
         }
     }
 }
 
-impl<T: Keyed + Copy, const N: usize> Few<T, N> {
-    ghost use Rattle.std.specs.Prelude.{ℕ, ◌+◌, ◌<◌, drop, MatchOption, slice_index_or};
+impl<T: Keyed, const N: usize> Few<T, N> {
+    ghost use Rattle.std.specs.Prelude.{◌<◌, MatchOption};
     ghost use Rattle.table.specs.Few.{items_of};
     ghost use Rattle.table.specs.Found.{First, Lacks};
-    ghost use Rattle.table.specs.Ordered.{insert_by};
 
-    // The index of the first item with that key. Cell by cell, and no binary search, as the promise
-    // holds of items in any order.
+    // The index of the first item with that key.
     pub fn find(&self, key: u32) -> Option<usize>
         ensures { MatchOption result (Lacks T.Keyed.key key (items_of self.now)) (λ i. (i < self.now.used) × First T.Keyed.key key self.now.table i) }
     {
-        self.as_slice().iter().position(|item| item.key() == key)
+        crate::find(&self.table[..], self.used, key)
     }
+}
 
-    // Where an item of that key goes: before the first whose key is greater.
-    fn place(&self, key: u32) -> usize
-        ensures within { result ≤ self.now.used }
-        ensures before { (j : ℕ) (d : T) → j < result → T.Keyed.key (slice_index_or (items_of self.now) j d) ≤ key }
-        ensures next { result < self.now.used → (d : T) → key < T.Keyed.key (slice_index_or (items_of self.now) result d) }
-    {
-        let items = self.as_slice();
-        items
-            .iter()
-            .position(|item| key < item.key())
-            .unwrap_or(items.len())
-    }
+impl<T: Keyed + Copy, const N: usize> Few<T, N> {
+    ghost use Rattle.std.specs.Prelude.{◌+◌, ◌<◌, drop};
+    ghost use Rattle.table.specs.Few.{items_of};
+    ghost use Rattle.table.specs.Ordered.{insert_by};
 
     // Puts the item before the first whose key is greater, and moves the later ones up by one. A
     // full table stays as it is.
@@ -115,10 +119,8 @@ impl<T: Keyed + Copy, const N: usize> Few<T, N> {
         ensures full { N ≤ self.old.used → self.new ≡ self.old }
     {
         if self.used < N {
-            let at = self.place(item.key());
             let cells = &mut self.table[..];
-            cells[at..self.used + 1].rotate_right(1);
-            cells[at] = item;
+            crate::insert(cells, self.used, item);
             self.used += 1;
         }
     }

@@ -51,85 +51,77 @@ pub struct TimedParts {
     pub cost: u32,
 }
 
-// A task released at least a period apart.
+// A task released at least a period apart: numbers that were found to be within their limits.
 #[derive(Clone, Copy)]
 pub struct Timed {
-    period: u32,
-    deadline: u32,
-    cost: u32,
-    ghost period_most: { period ≤ 100000000 },
-    ghost deadline_least: { 1 ≤ deadline },
-    ghost deadline_most: { deadline ≤ period },
-    ghost cost_least: { 1 ≤ cost },
-    ghost cost_most: { cost ≤ 100000 },
+    parts: TimedParts,
+    ghost period_most: { parts.period ≤ 100000000 },
+    ghost deadline_least: { 1 ≤ parts.deadline },
+    ghost deadline_most: { parts.deadline ≤ parts.period },
+    ghost cost_least: { 1 ≤ parts.cost },
+    ghost cost_most: { parts.cost ≤ 100000 },
 }
 
 impl Timed {
     // The shortest timed task.
     pub const LEAST: Timed = Timed {
-        period: 1,
-        deadline: 1,
-        cost: 1,
+        parts: TimedParts {
+            period: 1,
+            deadline: 1,
+            cost: 1,
+        },
     };
 
     // A timed task, or a refusal where a number is outside its limits.
     pub fn new(parts: TimedParts) -> Result<Timed, Refusal>
-        ensures made { MatchResult result (λ c. (c.period ≡ parts.period) × (c.deadline ≡ parts.deadline) × (c.cost ≡ parts.cost)) (λ e. e ≡ ValueLimits) }
+        ensures made { MatchResult result (λ c. c.parts ≡ parts) (λ e. e ≡ ValueLimits) }
         ensures when { is_ok result ≡ ((nat_le 1 parts.period && nat_le parts.period 100000000) && ((nat_le 1 parts.deadline && nat_le parts.deadline parts.period) && (nat_le 1 parts.cost && nat_le parts.cost 100000))) }
     {
-        let TimedParts {
-            period,
-            deadline,
-            cost,
-        } = parts;
-        let in_time = (1..=100_000_000).contains(&period) && (1..=period).contains(&deadline);
-        if !in_time || !cost_right(cost) {
+        let in_time = (1..=100_000_000).contains(&parts.period)
+            && (1..=parts.period).contains(&parts.deadline);
+        if !in_time || !cost_right(parts.cost) {
             return Err(Refusal::ValueLimits);
         }
-        Ok(Timed {
-            period,
-            deadline,
-            cost,
-        })
+        Ok(Timed { parts })
     }
 
     // Changes the cost, or refuses one outside its limits.
     pub fn recost(&mut self, cost: u32) -> Result<(), Refusal>
         ensures when { is_ok result ≡ (nat_le 1 cost && nat_le cost 100000) }
-        ensures done { MatchResult result (λ _. (self.new.period ≡ self.old.period) × (self.new.deadline ≡ self.old.deadline) × (self.new.cost ≡ cost)) (λ e. (e ≡ ValueLimits) × (self.new ≡ self.old)) }
+        ensures done { MatchResult result (λ _. (self.new.parts.period ≡ self.old.parts.period) × (self.new.parts.deadline ≡ self.old.parts.deadline) × (self.new.parts.cost ≡ cost)) (λ e. (e ≡ ValueLimits) × (self.new ≡ self.old)) }
     {
         if !cost_right(cost) {
             return Err(Refusal::ValueLimits);
         }
-        self.cost = cost;
+        self.parts.cost = cost;
         Ok(())
     }
 }
 
 impl Task for Timed {
-    ghost graph = { λ c. timed_graph c.period c.deadline c.cost };
+    ghost graph = { λ c. timed_graph c.parts.period c.parts.deadline c.parts.cost };
 
-    ghost lists = { λ c k js. Timing k c.period c.deadline c.cost js };
+    ghost lists = { λ c k js. Timing k c.parts.period c.parts.deadline c.parts.cost js };
 
-    ghost lawful = { λ c. timed_lawful c.period c.deadline c.cost c.period_most c.deadline_least c.deadline_most c.cost_least c.cost_most };
+    ghost lawful = { λ c. timed_lawful c.parts.period c.parts.deadline c.parts.cost c.period_most c.deadline_least c.deadline_most c.cost_least c.cost_most };
 
-    ghost follows = { λ x k js o l. timing_follows k x.period x.deadline x.cost js l };
+    ghost follows = { λ x k js o l. timing_follows k x.parts.period x.parts.deadline x.parts.cost js l };
 
     fn places(&self) -> usize {
         1
     }
 
     fn cost(&self, place: usize) -> u32 {
-        if place == 1 { self.cost } else { 0 }
+        if place == 1 { self.parts.cost } else { 0 }
     }
 
     fn deadline(&self, place: usize) -> u32 {
-        if place == 1 { self.deadline } else { 0 }
+        if place == 1 { self.parts.deadline } else { 0 }
     }
 
     fn gap(&self, from: usize, to: usize) -> Option<u32> {
         if from == 1 && to == 1 {
-            Some(self.period)
+            Some(self.parts.period)
         } else {
             None
         }

@@ -6,10 +6,10 @@ ghost use Rattle.std.specs.Option.{option_map};
 use std::alloc::Global;
 use std::io;
 use std::io::Read;
-use weighing::run::weigh;
+use weighing::run::{MOST_BYTES, weigh};
 
 // One byte more than a plan file may have: a longer input is told by this one.
-const MOST: usize = 2049;
+const MOST: usize = MOST_BYTES + 1;
 
 // The bytes of an input, up to its end or to the most that are read.
 fn fill<R: Read + Drop>(heap: Global, input: R) -> io::Result<Vec<u8>>

@@ -1,7 +1,7 @@
 // The lines that weigh prints.
 ghost use Rattle.std.specs.Prelude.{◌≡◌, Some};
 ghost use Rattle.weighing.specs.declared.line.Line.TheVariants as lines;
-ghost use Rattle.weighing.specs.Lines.{line_text, verdict_line};
+ghost use Rattle.weighing.specs.Lines.{line_text};
 ghost use Rattle.weighing.specs.Turns.{fault_line};
 
 use deck::verdict::Verdict;
@@ -13,10 +13,8 @@ use std::fmt;
 pub enum Line {
     // a change was made
     Done,
-    // the plan fits to the horizon
-    Fits { horizon: u32 },
-    // the least window length that is demanded too much, and that demand
-    Over { at: u32, total: u64 },
+    // what a judging answered
+    Judged(Verdict),
     // a refusal, and the byte place of the record
     No { refusal: Refusal, at: usize },
 }
@@ -27,9 +25,8 @@ impl fmt::Display for Line {
     fn fmt<W: fmt::Write>(&self, f: &mut fmt::Formatter<W>) -> fmt::Result {
         match self {
             Line::Done => write!(f, "ok"),
-            Line::Fits { horizon } => write!(f, "fits {horizon}"),
-            Line::Over { at, total } => write!(f, "over {at} {total}"),
-            Line::No { refusal, at } => write!(f, "no {} at {at}", refusal.number()),
+            Line::Judged(verdict) => write!(f, "{verdict}"),
+            Line::No { refusal, at } => write!(f, "no {refusal} at {at}"),
         }
     }
 }
@@ -45,13 +42,10 @@ impl From<()> for Line {
 
 // The line of a verdict.
 impl From<Verdict> for Line {
-    ghost from_gives = { λ verdict line. line ≡ verdict_line verdict };
+    ghost from_gives = { λ verdict line. line ≡ lines.Judged verdict };
 
     fn from(verdict: Verdict) -> Line {
-        match verdict {
-            Verdict::Fits { horizon } => Line::Fits { horizon },
-            Verdict::Over { at, total } => Line::Over { at, total },
-        }
+        Line::Judged(verdict)
     }
 }
 

@@ -8,7 +8,7 @@ use records::record::Record;
 use std::alloc::{AllocError, Global};
 
 impl OpenCard {
-    // Before any card.
+    // Before any card. No Option, as no record asks for the card then: its own record comes first.
     pub fn new(heap: Global) -> OpenCard
         ensures { pending_of result ≡ no_card }
     {

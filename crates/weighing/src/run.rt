@@ -21,7 +21,7 @@ use std::alloc::{AllocError, Global};
 use std::ops::ControlFlow::{self, Break, Continue};
 
 // The greatest input, in bytes.
-const MOST_BYTES: usize = 2048;
+pub const MOST_BYTES: usize = 2048;
 
 impl Found {
     // Whether the reading ends where this record is refused so.

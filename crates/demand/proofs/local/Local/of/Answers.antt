@@ -1,10 +1,7 @@
-use Rattle.std.proofs.Common.{◌≤◌, sym, subst}
+use Rattle.std.proofs.Common.{sym, subst}
 use Rattle.task.specs.Graph.{Lawful}
 use Rattle.demand.proofs.Copies.{copy_is}
 use Rattle.demand.proofs.local.Local.of.Goals as goal
-
-pub invariant_of-result-clause-few : goal.invariant_of-result-clause-few
-invariant_of-result-clause-few g c = subst (λ n. n ≤ 24) (sym c.places-places.ensures) (g.met.T.Task.lawful c.args.task.now).few
 
 pub invariant_of-result-2 : goal.invariant_of-result-2
 invariant_of-result-2 g c =
