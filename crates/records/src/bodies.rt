@@ -28,7 +28,7 @@ impl TryFrom<u8> for Kind {
 }
 
 impl Kind {
-    // The kind that a byte stands for, if any.
+    // The kind that a byte stands for, if any: `try_from` for callers who need no error.
     pub fn of(byte: u8) -> Option<Kind>
         ensures { result ≡ kind_of byte }
     {

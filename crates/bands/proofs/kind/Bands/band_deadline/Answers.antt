@@ -1,5 +1,5 @@
-use Rattle.std.proofs.Common.{◌≡◌, ℕ, Some, None, Option, sym, refl, ap, ◌∙◌, subst, rules, tests}
-use Rattle.std.specs.Option.{option_map}
+use Rattle.std.proofs.Common.{◌≡◌, sym, ap, ◌∙◌, subst, rules, tests}
+use Rattle.std.proofs.lemmas.Iterator.Adapters.{option_map_id}
 use Rattle.std.proofs.lemmas.Iterator.Consumers.{YieldsList-at, YieldsList-from_filter_map, min_from_yields_List}
 use Rattle.engine.specs.Views.{numbers_of, parts_of}
 use Rattle.task.specs.Walks.{ticks}
@@ -9,10 +9,6 @@ use Rattle.bands.specs.Laws.Ready.{ready_of}
 use Rattle.bands.proofs.Least.{YieldsList-from_inclusive, reduce-whole}
 use Rattle.bands.proofs.kind.Bands.band_deadline.Goals as goal
 
-as_is : (o : Option ℕ) → option_map (λ x. x) o ≡ o
-as_is None = refl
-as_is (Some x) = refl
-
 pub returns : goal.returns
 returns c =
     let b = c.args.self.now in
@@ -20,7 +16,7 @@ returns c =
     let parts = parts_of b.card in
     let p = c.args.place in
     let least =
-    sym (as_is c.min.result)
+    sym (option_map_id c.min.result)
     ∙ min_from_yields_List c.filter_map.result c.min.result c.min.ensures.ran
     (YieldsList-from_filter_map _ (band_gap e parts p)
     (YieldsList-at c.filter_map.ensures.source (YieldsList-from_inclusive c.new.result)) c.filter_map.ensures.closure

@@ -49,14 +49,10 @@ returns-in-Some-Crank c =
           c.cut.result (changed_seen crank_of (λ z. z.number) deck.cranks n i at x y _ _ g c.cut.result c.cut.ensures.done);
     }
 
-pub returns-in-Some-Timed : goal.returns-in-Some-Timed
-returns-in-Some-Timed c =
+pub returns-in-Some-Timed-clause-refusal : goal.returns-in-Some-Timed-clause-refusal
+returns-in-Some-Timed-clause-refusal c =
     let deck = c.args.self.now in
     let n = c.args.number in
     let at = rw c.in-Some-Timed.field-0-is at c.in-Some-Timed.ensures in
-    record {
-      refusal =
-          ap (λ o. band_refused (numbers_of deck.engine) o c.args.speed) (sym at.0)
-          ∙ cut_passes (cards_of deck) n (sym (stands_in_use deck n (Some c.in-Some-Timed.field-0) c.in-Some-Timed.ensures)) c.args.speed;
-      done = refl;
-    }
+    ap (λ o. band_refused (numbers_of deck.engine) o c.args.speed) (sym at.0)
+    ∙ cut_passes (cards_of deck) n (sym (stands_in_use deck n (Some c.in-Some-Timed.field-0) c.in-Some-Timed.ensures)) c.args.speed
