@@ -37,11 +37,12 @@ impl Stop {
         requires { places ≤ 24 }
         ensures { (v : ℕ) → v < places → StopOf (T.Task.graph task.now) places (v + 1) (slice_index_or result v no_stop) }
     {
-        array::from_fn(|v| if v < places {
-            Stop::of(task, places, v + 1)
-        } else {
-            Stop::NONE
-        })
+        // In place: a closure for each of the 24 cells would copy 200 bytes for each.
+        let mut stops = [Stop::NONE; ROW];
+        for (v, stop) in stops[..places].iter_mut().enumerate() {
+            *stop = Stop::of(task, places, v + 1);
+        }
+        stops
     }
 }
 
