@@ -6,6 +6,7 @@ use Rattle.task.specs.Kinds.{empty_graph}
 use Rattle.task.specs.Lawful.{empty_lawful}
 use Rattle.demand.specs.Judged.{lent_refusal}
 use Rattle.deck.specs.declared.verdict.Verdict.{Verdict}
+use Rattle.deck.specs.declared.verdict.Verdict.TheVariants as verdicts
 use Rattle.plan.specs.Standing.{Standing, new_plan}
 use Rattle.plan.specs.History as plans
 use Rattle.plan.specs.History.{Change, History, change_refused, with_change}
@@ -42,7 +43,8 @@ module _ (h : History) (s s' : Standing) (reach : Reaches h false s) where
   quiet_reaches e = subst (Reaches h false) (sym e) reach
 
   verdict_said : (v : Verdict) → reported (verdict_line v) ≡ plans.verdict v
-  verdict_said v = refl
+  verdict_said (verdicts.Fits horizon) = refl
+  verdict_said (verdicts.Over t n) = refl
 
   judged_reaches : (head : Head) (horizon : ℕ) (a : Answer) (x : Option Refusal) → x ≡ lent_refusal horizon 14424 601 → Judging head s horizon x s' a → Reaches (record { call = plans.judge empty_graph horizon 14424 601; answer = answer_said a } ∷ h) false s'
   judged_reaches head horizon a None none told =

@@ -49,10 +49,10 @@ end_prints bytes x o line e same l =
 
 -- A record r was read at a place: x stands before it, and the run stands after it with the plan s'.
 module _ (bytes : List ℕ) (x : State) (r : Record) (s' : Standing) (here : Ok (Some r) ≡ read_at x.open_now x.at bytes) where
-  abbrev read : State
+  abbrev pub read : State
   read = record { plan = x.plan; card = noted x.card x.at r; open_now = open_after x.open_now r; at = at_after x.at (Ok (Some r)) }
 
-  abbrev after : State
+  abbrev pub after : State
   after = record { plan = s'; card = noted x.card x.at r; open_now = open_after x.open_now r; at = at_after x.at (Ok (Some r)) }
 
   turned_after : (t : Turn) → Took read x.at r s' t → Turned bytes x after t

@@ -1,6 +1,7 @@
 -- The run of a plan file as a history of the plan's calls.
 use Rattle.std.specs.Prelude.{ℕ, cond, List, [], ◌∷◌, length, Some, None, MatchBool, Option, nat_lt}
 use Rattle.task.specs.Kinds.{empty_graph}
+use Rattle.deck.specs.declared.verdict.Verdict.TheVariants as verdicts
 use Rattle.plan.specs.Standing.{Standing, new_plan}
 use Rattle.plan.specs.History as plans
 use Rattle.plan.specs.History.{Call, History}
@@ -31,7 +32,8 @@ call_of p o (records.Judge horizon) = Some (plans.judge empty_graph horizon 1442
 -- the answer that a line reports
 abbrev pub reported : Line → plans.Answer
 reported lines.Done = plans.done
-reported (lines.Judged verdict) = plans.verdict verdict
+reported (lines.Fits horizon) = plans.verdict (verdicts.Fits horizon)
+reported (lines.Over t total) = plans.verdict (verdicts.Over t total)
 reported (lines.No refusal at) = plans.refused refusal
 
 -- the answer of a call that was carried out

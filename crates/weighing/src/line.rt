@@ -1,7 +1,7 @@
 // The lines that weigh prints.
 ghost use Rattle.std.specs.Prelude.{◌≡◌, Some};
 ghost use Rattle.weighing.specs.declared.line.Line.TheVariants as lines;
-ghost use Rattle.weighing.specs.Lines.{line_text};
+ghost use Rattle.weighing.specs.Lines.{line_text, verdict_line};
 ghost use Rattle.weighing.specs.Turns.{fault_line};
 
 use deck::verdict::Verdict;
@@ -9,12 +9,15 @@ use planfile::faults::FileFault;
 use refusal::Refusal;
 use std::fmt;
 
+// Flat: a Verdict inside would bring a tag of its own, and each line would take half as much again.
 #[derive(Clone, Copy, PartialEq, Eq, Debug)]
 pub enum Line {
     // a change was made
     Done,
-    // what a judging answered
-    Judged(Verdict),
+    // the plan fits to the horizon
+    Fits { horizon: u32 },
+    // the least window length that is demanded too much, and that demand
+    Over { at: u32, total: u64 },
     // a refusal, and the byte place of the record
     No { refusal: Refusal, at: usize },
 }
@@ -25,7 +28,8 @@ impl fmt::Display for Line {
     fn fmt<W: fmt::Write>(&self, f: &mut fmt::Formatter<W>) -> fmt::Result {
         match self {
             Line::Done => write!(f, "ok"),
-            Line::Judged(verdict) => write!(f, "{verdict}"),
+            Line::Fits { horizon } => write!(f, "fits {horizon}"),
+            Line::Over { at, total } => write!(f, "over {at} {total}"),
             Line::No { refusal, at } => write!(f, "no {refusal} at {at}"),
         }
     }
@@ -42,10 +46,13 @@ impl From<()> for Line {
 
 // The line of a verdict.
 impl From<Verdict> for Line {
-    ghost from_gives = { λ verdict line. line ≡ lines.Judged verdict };
+    ghost from_gives = { λ verdict line. line ≡ verdict_line verdict };
 
     fn from(verdict: Verdict) -> Line {
-        Line::Judged(verdict)
+        match verdict {
+            Verdict::Fits { horizon } => Line::Fits { horizon },
+            Verdict::Over { at, total } => Line::Over { at, total },
+        }
     }
 }
 
