@@ -28,13 +28,13 @@ kind_read at b k read h e = go (kind_of b) read h e
     go (Some x) (Err u) h e = cc
 
 -- bytes whose first stands for a kind
-next_known : (o : Open) (k : Kind) (rest : List ℕ) → 0 < length rest → Some k ≡ kind_of (get_or rest 0 0) → next_record o rest ≡ known o k (drop 1 rest)
+pub next_known : (o : Open) (k : Kind) (rest : List ℕ) → 0 < length rest → Some k ≡ kind_of (get_or rest 0 0) → next_record o rest ≡ known o k (drop 1 rest)
 next_known o k [] h e = absurd (omega arith)
 next_known o k (b ∷ bs) h e =
     let P : Option Kind → Type 0 = λ q. elim q [ None ↦ Err refusals.UnknownKind | Some j ↦ known o j bs ] ≡ known o k bs in
     subst P e refl
 
-kind_here : (k : Kind) (rest : List ℕ) → 0 < length rest → Some k ≡ kind_of (get_or rest 0 0) → kind_at rest ≡ Some k
+pub kind_here : (k : Kind) (rest : List ℕ) → 0 < length rest → Some k ≡ kind_of (get_or rest 0 0) → kind_at rest ≡ Some k
 kind_here k [] h e = absurd (omega arith)
 kind_here k (b ∷ bs) h e = sym e
 
@@ -43,7 +43,7 @@ abbrev pub filed : ℕ → Result Record RecordFault → Result (Option Record) 
 filed at (Ok r) = Ok (Some r)
 filed at (Err f) = Err (file_fault (record { context = at; fault = f }))
 
-faulted_filed : (at : ℕ) (k : Kind) (rest : List ℕ) (read : Result (Option Record) Refusal) (got : Result Record RecordFault) → kind_at rest ≡ Some k → one got ≡ in_record k read → filed at got ≡ faulted at rest read
+pub faulted_filed : (at : ℕ) (k : Kind) (rest : List ℕ) (read : Result (Option Record) Refusal) (got : Result Record RecordFault) → kind_at rest ≡ Some k → one got ≡ in_record k read → filed at got ≡ faulted at rest read
 faulted_filed at k rest (Ok o) (Ok r) e h = cc
 faulted_filed at k rest (Ok o) (Err f) e h = cc
 faulted_filed at k rest (Err x) (Ok r) e h = cc

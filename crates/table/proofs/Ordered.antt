@@ -2,6 +2,7 @@
 use Rattle.std.proofs.Common.{◌≡◌, ℕ, zero, suc, ◌+◌, ◌<◌, ◌≤◌, min, true, false, eqb, ltb, List, [], ◌∷◌, length, get_or, take, set, Some, None, sym, refl, ap, ◌∙◌, arith, length-take}
 use Rattle.std.specs.List.{insert, remove, AllByRecursion as All}
 use Rattle.std.proofs.lemmas.List.{get_or-take}
+use Rattle.std.proofs.lemmas.List.Edits.{length-remove}
 use Rattle.std.proofs.lemmas.Bool.{lt-ltb, le-ltb, eq-eqb, ne_eqb, eqb-true, cond-true, cond-false, cond_both}
 use Rattle.table.specs.Ordered.{insert_by, find_by, without, change_by}
 use Rattle.table.specs.Found.{Lacks, First}
@@ -44,6 +45,18 @@ module _ {X : Type 0} (key : X → ℕ) where
     find_none (x ∷ xs) h =
         cond-false (eqb (key x) n) _ _ (ne_eqb (key x) n (h 0 x (omega arith)))
         ∙ find_none xs (λ j d l. h (suc j) d (omega arith))
+
+    pub without_none : (xs : List X) → Lacks key n xs → without key n xs ≡ xs
+    without_none [] h = refl
+    without_none (x ∷ xs) h =
+        cond-false (eqb (key x) n) _ _ (ne_eqb (key x) n (h 0 x (omega arith)))
+        ∙ ap (λ l. x ∷ l) (without_none xs (λ j d l. h (suc j) d (omega arith)))
+
+    pub change_none : (f : X → X) (xs : List X) → Lacks key n xs → change_by key n f xs ≡ xs
+    change_none f [] h = refl
+    change_none f (x ∷ xs) h =
+        cond-false (eqb (key x) n) _ _ (ne_eqb (key x) n (h 0 x (omega arith)))
+        ∙ ap (λ l. x ∷ l) (change_none f xs (λ j d l. h (suc j) d (omega arith)))
 
     -- what a place below `used` says of the items in use alone
     pub first_take : (used : ℕ) (xs : List X) (i : ℕ) → i < used → First key n xs i → First key n (take used xs) i
@@ -93,6 +106,25 @@ module _ {X : Type 0} (key : X → ℕ) where
 
     pub without_used : (used : ℕ) (xs : List X) (i : ℕ) → i < used → First key n xs i → without key n (take used xs) ≡ remove (take used xs) i
     without_used used xs i u h = without_first (take used xs) i (first_take used xs i u h)
+
+    pub change_used :
+        (f : X → X) (used : ℕ) (xs : List X) (i : ℕ) (d : X) → i < used → First key n xs i → change_by key n f (take used xs) ≡ set (take used xs) i (f (get_or xs i d))
+    change_used f used xs i d u h =
+        change_first f (take used xs) i d (first_take used xs i u h)
+        ∙ ap (λ y. set (take used xs) i (f y)) (get_or-take used xs i d u)
+
+    pub length_without : (xs : List X) (i : ℕ) → First key n xs i → length (without key n xs) + 1 ≡ length xs
+    length_without xs i h = ap (λ l. length l + 1) (without_first xs i h) ∙ length-remove xs i h.0
+
+    pub length_without_le : (xs : List X) → length (without key n xs) ≤ length xs
+    length_without_le [] = omega arith
+    length_without_le (x ∷ xs) =
+        cond_both (eqb (key x) n) xs (x ∷ without key n xs) (λ l. length l ≤ length (x ∷ xs)) (λ _. omega arith) (λ _. let h = length_without_le xs in omega arith)
+
+    pub length_change_by : (f : X → X) (xs : List X) → length (change_by key n f xs) ≡ length xs
+    length_change_by f [] = refl
+    length_change_by f (x ∷ xs) =
+        cond_both (eqb (key x) n) (f x ∷ xs) (x ∷ change_by key n f xs) (λ l. length l ≡ length (x ∷ xs)) (λ _. refl) (λ _. ap suc (length_change_by f xs))
 
     pub all_without : (P : X → Type 0) (xs : List X) → All P xs → All P (without key n xs)
     all_without P [] a = tt

@@ -98,6 +98,10 @@ window_demand_most g k a b t n (j ∷ js) f w m =
 pub whole_div : (k n : ℕ) → 1 ≤ k → Whole k n (n / k)
 whole_div k n h = record { within = mul-div-le n k; beyond = omega (arith, lt-mul-div-succ n h) }
 
+pub window_demand_div : (g : Graph) (k a b n : ℕ) (js : List Job) → 1 ≤ k → Follows g k js → Greatest g ((b - a) / k) n
+    → window_demand a b js ≤ k * n
+window_demand_div g k a b n js h f m = window_demand_most g k a b ((b - a) / k) n js f (whole_div k (b - a) h) m
+
 -- The same of all tasks: the window demands no more than the total at t.
 pub windows_demand_most : (gs : List Graph) (k a b t n : ℕ) (jss : List (List Job)) → AllFollow gs k jss → Whole k (b - a) t → Total gs t n
     → windows_demand a b jss ≤ k * n
