@@ -4,7 +4,6 @@ ghost use Rattle.demand.specs.Copied.{graph_of};
 ghost use Rattle.demand.specs.Stops.{StopOf, no_stop};
 
 use crate::local::{Local, ROW, Stop};
-use std::array;
 use table::few::Few;
 use task::interface::Task;
 
@@ -17,18 +16,14 @@ impl Stop {
     };
 
     // Asks the task for one place, and for its gap to each of the places.
-    fn of<T: Task>(task: &T, places: usize, place: usize) -> Stop
+    fn ask<T: Task>(&mut self, task: &T, places: usize, place: usize)
         requires { places ≤ 24 }
-        ensures { StopOf (T.Task.graph task.now) places place result }
+        ensures { StopOf (T.Task.graph task.now) places place self.new }
     {
-        Stop {
-            cost: task.cost(place),
-            deadline: task.deadline(place),
-            gaps: array::from_fn(|u| if u < places {
-                task.gap(place, u + 1)
-            } else {
-                None
-            }),
+        self.cost = task.cost(place);
+        self.deadline = task.deadline(place);
+        for (u, gap) in self.gaps[..places].iter_mut().enumerate() {
+            *gap = task.gap(place, u + 1);
         }
     }
 
@@ -37,10 +32,10 @@ impl Stop {
         requires { places ≤ 24 }
         ensures { (v : ℕ) → v < places → StopOf (T.Task.graph task.now) places (v + 1) (slice_index_or result v no_stop) }
     {
-        // In place: a closure for each of the 24 cells would copy 200 bytes for each.
+        // In place, and only the places that there are: a stop handed over would be copied.
         let mut stops = [Stop::NONE; ROW];
         for (v, stop) in stops[..places].iter_mut().enumerate() {
-            *stop = Stop::of(task, places, v + 1);
+            stop.ask(task, places, v + 1);
         }
         stops
     }
