@@ -1,12 +1,15 @@
 -- A deck's engine cards stay right for its engine.
-use Rattle.std.proofs.Common.{◌≡◌, ℕ, zero, suc, ◌<◌, Bool, true, false, cond, eqb, ltb, List, [], ◌∷◌, length, get_or, take, Some, sym, refl, subst, arith, get_or-take}
+use Rattle.std.proofs.Common.{◌≡◌, ℕ, zero, suc, ◌<◌, Bool, true, false, cond, not, eqb, ltb, List, [], ◌∷◌, length, get_or, take, Some, None, sym, refl, subst, arith, get_or-take}
 use Rattle.std.specs.List.{AllPass}
 use Rattle.std.proofs.lemmas.List.{length-take-le}
 use Rattle.std.proofs.lemmas.Bool.{and_parts, and_from}
 use Rattle.table.specs.Ordered.{insert_by, find_by, without, change_by}
-use Rattle.engine.specs.Limits.{every, cost_ok, angle_ok}
-use Rattle.engine.specs.Views.{Numbers, Right, modes_ok, numbers_of}
-use Rattle.engine.specs.Changes.{cut_wrong}
+use Rattle.engine.specs.Limits.{every, cost_ok, angle_ok, bands_ok}
+use Rattle.engine.specs.Views.{Numbers, Parts, Right, modes_ok, numbers_of}
+use Rattle.engine.specs.Changes.{cut_wrong, card_refusal}
+use Rattle.refusal.specs.Numbers.{first_of, ◌gives◌}
+use Rattle.refusal.specs.declared.Refusal.TheVariants.{AngleLimits, ModeList, BandList}
+use Rattle.deck.proofs.Refused.{none_some}
 use Rattle.engine.proofs.Right.{cut_right, recost_right}
 use Rattle.deck.specs.declared.cards.CrankCard.{CrankCard}
 use Rattle.deck.specs.declared.deck.Deck.{Deck}
@@ -70,6 +73,21 @@ pub every_at : {X : Type 0} (test : X → Bool) (xs : List X) (i : ℕ) (d : X) 
 every_at test [] i d all h = absurd (omega arith)
 every_at test (x ∷ xs) zero d all h = (and_parts (test x) (every test xs) all).0
 every_at test (x ∷ xs) (suc i) d all h = every_at test xs i d (and_parts (test x) (every test xs) all).1 (omega arith)
+
+-- a card whose parts are refused nothing is right
+pub made_right : (e : Numbers) (c : Crank) (p : Parts) → c.parts ≡ p → None ≡ card_refusal e p → right_card e c ≡ true
+made_right e c p same fine =
+    parts_right e c (subst (Right e) (sym same) (all_pass (angle_ok e.greatest p.angle) (modes_ok e.least e.greatest p.modes) (bands_ok e.least e.greatest p.bands) fine))
+  where
+    all_pass : (a m b : Bool) → None ≡ first_of (not a gives AngleLimits ∷ not m gives ModeList ∷ not b gives BandList ∷ []) → (a ≡ true) × (m ≡ true) × (b ≡ true)
+    all_pass true true true h = (refl, refl, refl)
+    all_pass true true false h = absurd (none_some h)
+    all_pass true false true h = absurd (none_some h)
+    all_pass true false false h = absurd (none_some h)
+    all_pass false true true h = absurd (none_some h)
+    all_pass false true false h = absurd (none_some h)
+    all_pass false false true h = absurd (none_some h)
+    all_pass false false false h = absurd (none_some h)
 
 -- the engine cards of a deck are right for its engine
 pub crank_right : (d : Deck) (i : ℕ) (x : CrankCard) → i < d.cranks.used → right_card (numbers_of d.engine) (crank_of (get_or d.cranks.table i x)) ≡ true

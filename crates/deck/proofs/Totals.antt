@@ -44,6 +44,9 @@ greatest_most g l t n h =
     (λ z. omega (arith, z.0))
     h.reached
 
+pub grown_none : (horizon : ℕ) (xs : List ℕ) → Grown [] horizon xs xs
+grown_none horizon xs = record { at = λ t h. (0, refl, omega arith, λ k. omega arith); beyond = λ t h. refl }
+
 -- one task's demand
 pub grown_one : (g : Graph) → Lawful g → (horizon : ℕ) (work work' xs ys : List ℕ) → Added g horizon work work' xs ys → Grown (g ∷ []) horizon xs ys
 grown_one g l horizon work work' xs ys a = record {
